@@ -1,0 +1,32 @@
+-- What decimal digits spell.
+use Rattle.std.specs.Prelude.{ℕ, ℤ, pos, neg_ℤ, ◌+◌, ◌*◌, ◌-◌, ◌^◌, ◌==◌, ◌&&◌, Bool, false, List, [], ◌∷◌, length, Option, Some, None, if◌then◌else◌, nat_lt, nat_le, fold, option_map, option_and_then}
+use Rattle.std.specs.List.{list_all}
+use Rattle.std.specs.Char.{is_ascii_digit}
+
+-- the number that a list of digits spells, the most significant first
+abbrev pub digits_value : List ℕ → ℕ
+digits_value bytes = fold (λ n byte. 10 * n + (byte - 48)) 0 bytes
+
+-- one or more ASCII digits, and nothing else
+abbrev pub are_digits : List ℕ → Bool
+are_digits [] = false
+are_digits (byte ∷ bytes) = list_all is_ascii_digit (byte ∷ bytes)
+
+-- the number that one or more digits spell
+unfoldable pub decimal : List ℕ → Option ℕ
+decimal bytes = if are_digits bytes then Some (digits_value bytes) else None
+
+-- a number that a word of 64 bits holds
+abbrev pub word : Option ℕ → Option ℕ
+word number = option_and_then (λ n. if nat_lt n (2 ^ 64) then Some n else None) number
+
+-- the number that 1 to `longest` digits spell
+unfoldable pub short_decimal : ℕ → List ℕ → Option ℕ
+short_decimal longest bytes = if nat_le (length bytes) longest then decimal bytes else None
+
+-- the number that an optional `-` and 1 to `longest` digits spell
+unfoldable pub signed_decimal : ℕ → List ℕ → Option ℤ
+signed_decimal longest [] = None
+signed_decimal longest (byte ∷ bytes) = if byte == 45
+    then option_map (λ n. neg_ℤ (pos n)) (short_decimal longest bytes)
+    else option_map pos (short_decimal longest (byte ∷ bytes))

@@ -1,0 +1,20 @@
+-- The draw lists of a shape. A shape is a list of bounds, each at least 1. A draw list of it is a list of numbers as
+-- long as the shape, each number below the bound at its place.
+use Rattle.std.specs.Prelude.{ℕ, zero, suc, ◌+◌, ◌<◌, Bool, cond, List, [], ◌∷◌}
+
+-- the sum of f over the numbers below a bound
+unfoldable pub sum_below : ℕ → (ℕ → ℕ) → ℕ
+sum_below zero f = 0
+sum_below (suc n) f = sum_below n f + f n
+
+-- how many draw lists of a shape meet a test
+unfoldable pub count : List ℕ → (List ℕ → Bool) → ℕ
+count [] test = cond (test []) 1 0
+count (bound ∷ shape) test = sum_below bound (λ draw. count shape (λ draws. test (draw ∷ draws)))
+
+-- the draws are a draw list of the shape
+unfoldable pub IsDrawList : List ℕ → List ℕ → Type 0
+IsDrawList [] [] = Unit {0}
+IsDrawList [] (draw ∷ draws) = ⊥
+IsDrawList (bound ∷ shape) [] = ⊥
+IsDrawList (bound ∷ shape) (draw ∷ draws) = (draw < bound) × IsDrawList shape draws
