@@ -1,0 +1,4 @@
+//! The runner: all that the program `dp` does, as one call over a shelf of files, a draw source and two outputs.
+#![tactic(auto)]
+
+mod tally;
