@@ -1,0 +1,17 @@
+use std::marker::Model;
+
+/// An open file of a shelf: the number that `open` gave, from 0, in the order of opening.
+#[derive(Clone, Copy, Debug)]
+pub struct Slot {
+    number: usize,
+}
+
+impl Model for Slot {
+    ghost use Rattle.std.specs.Prelude.{ℕ};
+
+    ghost Value = { ℕ };
+
+    ghost view = { λ slot. slot.number };
+
+    ghost inverse = { λ number. record { number = number } };
+}
