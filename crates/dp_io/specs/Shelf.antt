@@ -1,5 +1,5 @@
 -- What a shelf of files tells, and what an open and a read do to it.
-use Rattle.std.specs.Prelude.{◌≡◌, ℕ, ◌≤◌, List, [], ◌++◌, length, take, drop, Option, Some, None, IsSome}
+use Rattle.std.specs.Prelude.{◌≡◌, ℕ, ◌≤◌, List, [], ◌++◌, length, take, drop, Option, Some, None, IsSome, option_map}
 
 -- the bytes of each file by its name
 abbrev pub Files : Type 0
@@ -20,7 +20,11 @@ abbrev pub TakesNext : Option (List ℕ) → Option (List ℕ) → ℕ → List 
 TakesNext None new n buffer = new ≡ None
 TakesNext (Some left) new n buffer = (new ≡ Some (drop n left)) × (take n buffer ≡ take n left) × (n ≤ length left) × (n ≡ 0 → left ≡ [])
 
--- where what is left is told, what is left now is a rest of it
-abbrev pub KeepsRest : Option (List ℕ) → Option (List ℕ) → Type 0
-KeepsRest None new = new ≡ None
-KeepsRest (Some left) new = (front : List ℕ) × (rest : List ℕ) × (left ≡ front ++ rest) × (new ≡ Some rest)
+-- what was left with these bytes before what is left now, where it is told
+abbrev pub preceded : List ℕ → Option (List ℕ) → Option (List ℕ)
+preceded bytes left = option_map (λ rest. bytes ++ rest) left
+
+-- what is left now is a rest of what was left
+pub record KeepsRest (old new : Option (List ℕ)) : Type 0 where
+  pub front : List ℕ
+  pub split : old ≡ preceded front new

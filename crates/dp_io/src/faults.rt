@@ -1,5 +1,3 @@
-ghost use Rattle.std.specs.Prelude.{◌≡◌};
-
 use dp_count::{Failed, NoMemory};
 use std::alloc::{AllocError, AllocFailed};
 
@@ -21,4 +19,92 @@ pub enum WholeFault {
     TooLong,
     /// Memory ran out.
     NoMemory,
+}
+
+impl From<Failed> for OpenFault {
+    ghost use Rattle.std.specs.Prelude.{◌≡◌};
+    ghost use Rattle.dp_io.specs.declared.faults.OpenFault.TheVariants as open_fault;
+
+    ghost from_gives = { λ _ fault. fault ≡ open_fault.Failed };
+
+    fn from(_: Failed) -> Self {
+        OpenFault::Failed
+    }
+}
+
+impl From<NoMemory> for OpenFault {
+    ghost use Rattle.std.specs.Prelude.{◌≡◌};
+    ghost use Rattle.dp_io.specs.declared.faults.OpenFault.TheVariants as open_fault;
+
+    ghost from_gives = { λ _ fault. fault ≡ open_fault.NoMemory };
+
+    fn from(_: NoMemory) -> Self {
+        OpenFault::NoMemory
+    }
+}
+
+impl From<AllocError> for OpenFault {
+    ghost use Rattle.std.specs.Prelude.{◌≡◌};
+    ghost use Rattle.dp_io.specs.declared.faults.OpenFault.TheVariants as open_fault;
+
+    ghost from_gives = { λ _ fault. fault ≡ open_fault.NoMemory };
+
+    fn from(_: AllocError) -> Self {
+        OpenFault::NoMemory
+    }
+}
+
+impl<T: Drop> From<AllocFailed<T>> for OpenFault {
+    ghost use Rattle.std.specs.Prelude.{◌≡◌};
+    ghost use Rattle.dp_io.specs.declared.faults.OpenFault.TheVariants as open_fault;
+
+    ghost from_gives = { λ _ fault. fault ≡ open_fault.NoMemory };
+
+    fn from(_: AllocFailed<T>) -> Self {
+        OpenFault::NoMemory
+    }
+}
+
+impl From<Failed> for WholeFault {
+    ghost use Rattle.std.specs.Prelude.{◌≡◌};
+    ghost use Rattle.dp_io.specs.declared.faults.WholeFault.TheVariants as whole_fault;
+
+    ghost from_gives = { λ _ fault. fault ≡ whole_fault.Failed };
+
+    fn from(_: Failed) -> Self {
+        WholeFault::Failed
+    }
+}
+
+impl From<NoMemory> for WholeFault {
+    ghost use Rattle.std.specs.Prelude.{◌≡◌};
+    ghost use Rattle.dp_io.specs.declared.faults.WholeFault.TheVariants as whole_fault;
+
+    ghost from_gives = { λ _ fault. fault ≡ whole_fault.NoMemory };
+
+    fn from(_: NoMemory) -> Self {
+        WholeFault::NoMemory
+    }
+}
+
+impl From<AllocError> for WholeFault {
+    ghost use Rattle.std.specs.Prelude.{◌≡◌};
+    ghost use Rattle.dp_io.specs.declared.faults.WholeFault.TheVariants as whole_fault;
+
+    ghost from_gives = { λ _ fault. fault ≡ whole_fault.NoMemory };
+
+    fn from(_: AllocError) -> Self {
+        WholeFault::NoMemory
+    }
+}
+
+impl<T: Drop> From<AllocFailed<T>> for WholeFault {
+    ghost use Rattle.std.specs.Prelude.{◌≡◌};
+    ghost use Rattle.dp_io.specs.declared.faults.WholeFault.TheVariants as whole_fault;
+
+    ghost from_gives = { λ _ fault. fault ≡ whole_fault.NoMemory };
+
+    fn from(_: AllocFailed<T>) -> Self {
+        WholeFault::NoMemory
+    }
 }

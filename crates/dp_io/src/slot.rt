@@ -1,3 +1,5 @@
+ghost use Rattle.std.specs.Prelude.{◌≡◌};
+
 use std::marker::Model;
 
 /// An open file of a shelf: the number that `open` gave, from 0, in the order of opening.
@@ -14,4 +16,20 @@ impl Model for Slot {
     ghost view = { λ slot. slot.number };
 
     ghost inverse = { λ number. record { number = number } };
+}
+
+impl Slot {
+    /// The slot of that number.
+    pub(crate) fn new(number: usize) -> Slot
+        ensures { result ≡ number }
+    {
+        Slot { number }
+    }
+
+    /// The slot's number.
+    pub(crate) fn number(self) -> usize
+        ensures { result ≡ self }
+    {
+        self.number
+    }
 }

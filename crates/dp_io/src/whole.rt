@@ -6,6 +6,9 @@ ghost use Rattle.dp_io.specs.Shelf.{KeepsRest};
 use crate::{Shelf, Slot, WholeFault};
 use std::alloc::Global;
 
+/// How many bytes one read is asked for.
+const BUFFER_BYTES: usize = 65_536;
+
 /// All the bytes that are left of an open slot, at most `limit` of them. Nothing is then left.
 ///
 /// `TooLong` comes exactly where more than `limit` bytes are left and no read failed. `Failed` comes only where the
@@ -23,6 +26,16 @@ pub fn read_whole<S: Shelf>(alloc: Global, shelf: &mut S, slot: Slot, limit: u64
     ensures same_files { S.files shelf.new ≡ S.files shelf.old }
     ensures same_slots { S.slots shelf.new ≡ S.slots shelf.old }
 {
-    let _ = alloc;
-    Err(WholeFault::NoMemory)
+    let mut buffer = vec![in alloc; 0u8; BUFFER_BYTES]?;
+    let mut bytes = Vec::new(alloc);
+    loop {
+        let n = shelf.read(slot, &mut buffer)?;
+        if n == 0 {
+            return Ok(bytes);
+        }
+        if n as u64 > limit - bytes.len() as u64 {
+            return Err(WholeFault::TooLong);
+        }
+        bytes.extend_from_slice(&buffer[..n])?;
+    }
 }
