@@ -1,4 +1,5 @@
-ghost use Rattle.std.specs.Prelude.{ℕ, List, Some, ◌≡◌, ◌<◌, ◌≤◌, ◌^◌, result_ok};
+ghost use Rattle.std.specs.Prelude.{ℕ, List, Some, ◌≡◌, ◌<◌, ◌≤◌, ◌^◌};
+ghost use Rattle.std.specs.Result.{result_ok};
 ghost use Rattle.dp_count.specs.Faults.{HasCause};
 ghost use Rattle.dp_draws.specs.Taking.{Turn};
 
