@@ -4,7 +4,7 @@ use Rattle.std.specs.List.{slice_split}
 use Rattle.dp_count.specs.Digits.{short_decimal}
 
 -- a space, a tab, a line feed or a carriage return
-abbrev pub is_blank : ℕ → Bool
+unfoldable pub is_blank : ℕ → Bool
 is_blank byte = byte == 32 || byte == 9 || byte == 10 || byte == 13
 
 -- the pieces of at least one byte between the blanks

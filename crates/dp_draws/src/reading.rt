@@ -32,6 +32,7 @@ fn numbers(alloc: Global, bytes: &[u8]) -> Result<Vec<u64>, NoMemory>
     Ok(numbers)
 }
 
+#[tactic(auto, unfolding(crate::specs::Numbers::is_blank))]
 /// Whether the byte is a space, a tab, a line feed or a carriage return.
 fn is_blank(byte: u8) -> bool
     ensures { result ≡ is_blank byte }
