@@ -1,1 +1,4 @@
 pub mod RawRecords
+pub mod Stops
+pub mod Words
+pub mod Outcome
