@@ -1,1 +1,2 @@
 pub mod RecordCounts
+pub mod WordForms

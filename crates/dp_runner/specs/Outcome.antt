@@ -35,8 +35,8 @@ file_text files name most = text_within most (files name)
 -- how many CSV records a data file of at most 2 ^ 30 bytes has
 abbrev pub counted : Files → List ℕ → Result ℕ Stop
 counted files name = do
-  data ← file_text files name (2 ^ 30)
-  Ok (length (raw data))
+  text ← file_text files name (2 ^ 30)
+  Ok (length (raw text))
 
 -- the numbers that a draw file of at most 2 ^ 26 bytes spells
 abbrev pub drawn : Files → List ℕ → Result (List ℕ) Stop
@@ -51,8 +51,8 @@ cell_draws words numbers = (take_draws replay_step numbers (cell_shape words.lo 
 -- the answer of `count`: the geometric release of the number of records
 unfoldable pub count_answer : CountForm → Files → Result ℤ Stop
 count_answer words files = do
-  records ← counted files words.data
-  numbers ← drawn files words.draws
+  records ← counted files words.data_name
+  numbers ← drawn files words.draws_name
   draws ← or_stop stop.DrawFault (cell_draws words numbers)
   Ok (cell_out words.lo words.hi 1 2 (pos records) draws)
 

@@ -9,5 +9,3 @@ mod tally;
 
 pub use run::run_words;
 
-#[cfg(test)]
-mod tests;

@@ -1,4 +1,4 @@
-ghost use Rattle.std.specs.Prelude.{◌≡◌, IfOk, length};
+ghost use Rattle.std.specs.Prelude.{◌≡◌, ◌≤◌, IfOk, length};
 ghost use Rattle.csv.specs.declared.error.ErrorKind.{ErrorKind};
 ghost use Rattle.dp_runner.specs.RawRecords.{raw_up_to, IsOfReader};
 
@@ -11,7 +11,8 @@ pub(crate) const MOST_RECORDS: u64 = 1 << 30;
 
 /// How many of the first `most` CSV records a text has. The records may differ in their numbers of cells.
 pub(crate) fn count_records(alloc: Global, text: &[u8], most: u64) -> Result<u64, NoMemory>
-    ensures { IfOk result (λ n. n ≡ length (raw_up_to most text.now)) }
+    ensures records { IfOk result (λ n. n ≡ length (raw_up_to most text.now)) }
+    ensures within { IfOk result (λ n. n ≤ most) }
 {
     let mut reader = ReaderBuilder::new()
         .has_headers(false)

@@ -10,10 +10,10 @@ loop-count-preserved c =
     let read = c.in-Ok-true.ensures.reads c.loop-count.invariant.untrimmed c.loop-count.invariant.ready in
     given-more c.loop-count.reader _ _ c.loop-count.count c.args.most _ c.loop-count.invariant c.loop-count-test.true (rw c.in-Ok-true.field-0-test at read) (c.in-Ok-true.ensures.reads_on c.in-Ok-true.field-0-test)
 
-pub returns-in-Ok-false : goal.returns-in-Ok-false
-returns-in-Ok-false c =
+pub returns-in-Ok-false-clause-records : goal.returns-in-Ok-false-clause-records
+returns-in-Ok-false-clause-records c =
     let read = c.in-Ok-false.ensures.reads c.loop-count.invariant.untrimmed c.loop-count.invariant.ready in
     given-end c.loop-count.reader c.read_byte_record.new.self _ c.loop-count.count c.args.most _ c.loop-count.invariant (rw c.in-Ok-false.field-0-test at read)
 
-pub returns : goal.returns
-returns c = omega (arith, given-most c.loop-count.reader c.loop-count.count c.args.most _ c.loop-count.invariant c.loop-count-test.false)
+pub returns-clause-records : goal.returns-clause-records
+returns-clause-records c = omega (arith, given-most c.loop-count.reader c.loop-count.count c.args.most _ c.loop-count.invariant c.loop-count-test.false)
