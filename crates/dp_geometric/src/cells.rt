@@ -90,7 +90,15 @@ impl Cell {
         requires greatest { noise ≤ℤ pos 65536 }
         ensures { result ≡ clamp self.now.lo self.now.hi (clamp self.now.lo self.now.hi v +ℤ noise) }
     {
-        let near = v.max(self.lo).min(self.hi);
-        (near + noise).max(self.lo).min(self.hi)
+        self.nearest(self.nearest(v) + noise)
+    }
+
+    /// The answer that is nearest to `z`.
+    fn nearest(&self, z: i64) -> i64
+        ensures value { result ≡ clamp self.now.lo self.now.hi z }
+        ensures least { self.now.lo ≤ℤ result }
+        ensures greatest { result ≤ℤ self.now.hi }
+    {
+        z.max(self.lo).min(self.hi)
     }
 }

@@ -20,7 +20,7 @@ pub(crate) fn leading_run<D: Draws>(draws: &mut D, turns: u64, low: u64, high: u
     let mut run = 0;
     let mut still = true;
     for _turn in 0..turns {
-        still = draws.below(high)? < low && still;
+        still &= draws.below(high)? < low;
         run += u64::from(still);
     }
     Ok(run)
