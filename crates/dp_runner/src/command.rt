@@ -12,6 +12,7 @@ const NUMBER_DIGITS: usize = 18;
 const WIDEST: i64 = 65535;
 
 /// The words of `count DATA DRAWS LO HI`.
+#[derive(Debug, Drop)]
 pub(crate) struct CountWords<'a> {
     data_name: &'a str,
     draws_name: &'a str,
