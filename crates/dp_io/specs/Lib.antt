@@ -1,4 +1,5 @@
 pub mod Calls
+pub mod FileShelf
 pub mod MemShelf
 pub mod MemSink
 pub mod Shelf

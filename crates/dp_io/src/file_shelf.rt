@@ -1,4 +1,5 @@
-ghost use Rattle.std.specs.Prelude.{◌≡◌, ◌≤◌, length, IfOk};
+ghost use Rattle.std.specs.Prelude.{◌≡◌, ◌+◌, ◌<◌, ◌≤◌, length, IfOk, is_ok, if◌then◌else◌};
+ghost use Rattle.dp_io.specs.Calls.{one_more};
 
 use crate::{OpenFault, Shelf, Slot};
 use dp_count::Failed;
@@ -37,9 +38,20 @@ pub struct FileShelf<R: Files + Input> {
     failed: u64,
 }
 
+impl<R: Files + Input> Model for FileShelf<R> {
+    ghost use Rattle.std.specs.Prelude.{length};
+    ghost use Rattle.dp_io.specs.FileShelf.{ShelfCounts};
+
+    ghost Value = { ShelfCounts };
+
+    ghost view = { λ shelf. record { slots = length shelf.sources.items; failed = shelf.failed } };
+}
+
 impl<R: Files + Input> FileShelf<R> {
     /// No slot is open.
-    pub fn new(runtime: R, alloc: Global) -> FileShelf<R> {
+    pub fn new(runtime: R, alloc: Global) -> FileShelf<R>
+        ensures { result ≡ record { slots = 0; failed = 0 } }
+    {
         FileShelf {
             runtime,
             sources: Vec::new(alloc),
@@ -57,18 +69,22 @@ impl<R: Files + Input> FileShelf<R> {
 }
 
 impl<R: Files + Input> Shelf for FileShelf<R> {
-    ghost use Rattle.std.specs.Prelude.{None, length};
+    ghost use Rattle.std.specs.Prelude.{None};
     ghost use Rattle.dp_io.specs.Calls.{counted};
 
     ghost files = { λ _. None };
 
     ghost left = { λ _ _. None };
 
-    ghost slots = { λ shelf. length shelf.sources.items };
+    ghost slots = { λ shelf. shelf.slots };
 
     ghost faults = { λ shelf. counted shelf.failed };
 
-    fn open(&mut self, _alloc: Global, name: &str) -> Result<Slot, OpenFault> {
+    fn open(&mut self, _alloc: Global, name: &str) -> Result<Slot, OpenFault>
+        ensures slot { IfOk result (λ slot. slot ≡ self.old.slots) }
+        ensures slots { self.new.slots ≡ (if is_ok result then self.old.slots + 1 else self.old.slots) }
+        ensures failed { self.new.failed ≡ (if is_ok result then self.old.failed else one_more self.old.failed) }
+    {
         let source = match self.source(name) {
             Ok(source) => source,
             Err(error) => {
@@ -84,7 +100,13 @@ impl<R: Files + Input> Shelf for FileShelf<R> {
         Ok(slot)
     }
 
-    fn read(&mut self, slot: Slot, buf: &mut [u8]) -> Result<usize, Failed> {
+    fn read(&mut self, slot: Slot, buf: &mut [u8]) -> Result<usize, Failed>
+        requires open { slot < self.old.slots }
+        requires room { 0 < length buf.old }
+        ensures fits { IfOk result (λ n. n ≤ length buf.old) }
+        ensures slots { self.new.slots ≡ self.old.slots }
+        ensures failed { self.new.failed ≡ (if is_ok result then self.old.failed else one_more self.old.failed) }
+    {
         let Ok(n) = self.sources[slot.number()].read(buf) else {
             self.failed = self.failed.saturating_add(1);
             return Err(Failed);

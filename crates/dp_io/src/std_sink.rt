@@ -1,9 +1,11 @@
-ghost use Rattle.std.specs.Prelude.{◌≡◌, ◌≤◌, length, IfOk};
+ghost use Rattle.std.specs.Prelude.{◌≡◌, ◌<◌, ◌≤◌, length, IfOk, is_ok, if◌then◌else◌};
+ghost use Rattle.dp_io.specs.Calls.{one_more};
 
 use crate::Sink;
 use dp_count::Failed;
 use std::io;
 use std::io::Write;
+use std::marker::Model;
 use std::rt::{Stderr, Stdout};
 
 /// A standard stream of a process.
@@ -26,15 +28,25 @@ impl Stream {
 
 /// The standard output or the standard error. It tells no bytes.
 ///
-/// Its count of faults rises at every `Err`. A write that took nothing is one.
+/// Contracts see its count of faults, which rises at every `Err`. A write that took nothing is one.
 pub struct StdSink {
     stream: Stream,
     failed: u64,
 }
 
+impl Model for StdSink {
+    ghost use Rattle.std.specs.Prelude.{ℕ};
+
+    ghost Value = { ℕ };
+
+    ghost view = { λ sink. sink.failed };
+}
+
 impl StdSink {
     /// The standard output.
-    pub fn out(rt: &HostRuntime) -> StdSink {
+    pub fn out(rt: &HostRuntime) -> StdSink
+        ensures { result ≡ 0 }
+    {
         StdSink {
             stream: Stream::Output(rt.stdout()),
             failed: 0,
@@ -42,7 +54,9 @@ impl StdSink {
     }
 
     /// The standard error.
-    pub fn err(rt: &HostRuntime) -> StdSink {
+    pub fn err(rt: &HostRuntime) -> StdSink
+        ensures { result ≡ 0 }
+    {
         StdSink {
             stream: Stream::Error(rt.stderr()),
             failed: 0,
@@ -56,9 +70,14 @@ impl Sink for StdSink {
 
     ghost held = { λ _. None };
 
-    ghost faults = { λ sink. counted sink.failed };
+    ghost faults = { λ sink. counted sink };
 
-    fn write(&mut self, bytes: &[u8]) -> Result<usize, Failed> {
+    fn write(&mut self, bytes: &[u8]) -> Result<usize, Failed>
+        requires { 0 < length bytes.now }
+        ensures some { IfOk result (λ n. 1 ≤ n) }
+        ensures fits { IfOk result (λ n. n ≤ length bytes.now) }
+        ensures failed { self.new ≡ (if is_ok result then self.old else one_more self.old) }
+    {
         match self.stream.write(bytes) {
             Ok(n) if 0 < n => Ok(n),
             _ => {

@@ -4,7 +4,7 @@ ghost use Rattle.dp_count.specs.Faults.{Rose};
 ghost use Rattle.dp_io.specs.Shelf.{KeepsRest};
 
 use crate::{Shelf, Slot, WholeFault};
-use std::alloc::Global;
+use std::alloc::{AllocError, Global};
 
 /// How many bytes one read is asked for.
 const BUFFER_BYTES: usize = 65_536;
@@ -26,7 +26,7 @@ pub fn read_whole<S: Shelf>(alloc: Global, shelf: &mut S, slot: Slot, limit: u64
     ensures same_files { S.files shelf.new ≡ S.files shelf.old }
     ensures same_slots { S.slots shelf.new ≡ S.slots shelf.old }
 {
-    let mut buffer = vec![in alloc; 0u8; BUFFER_BYTES]?;
+    let mut buffer = new_buffer(alloc)?;
     let mut bytes = Vec::new(alloc);
     loop {
         let n = shelf.read(slot, &mut buffer)?;
@@ -38,4 +38,11 @@ pub fn read_whole<S: Shelf>(alloc: Global, shelf: &mut S, slot: Slot, limit: u64
         }
         bytes.extend_from_slice(&buffer[..n])?;
     }
+}
+
+/// A buffer for the reads.
+fn new_buffer(alloc: Global) -> Result<Vec<u8>, AllocError>
+    ensures { IfOk result (λ buffer. 0 < length buffer.items) }
+{
+    vec![in alloc; 0u8; BUFFER_BYTES]
 }
