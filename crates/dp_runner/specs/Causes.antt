@@ -11,10 +11,10 @@ use Rattle.dp_runner.specs.declared.stop.Stop.TheVariants as stop
 abbrev pub IsTold : Option Files → (Files → Type 0) → Type 0
 IsTold told P = (files : Files) × (told ≡ Some files) × P files
 
--- why a step that writes nothing ends a run: as the definition says of the files that are told, or a read fault where
--- the shelf's count of faults rose, or want of memory
+-- why a step that reads the files of a form and writes nothing ends a run: as the definition says of the files that
+-- are told, or a read fault where the shelf's count of faults rose, or want of memory
 abbrev pub HasReason : {A : Type 0} → Stop → Option Files → (Files → Result A Stop) → ℕ → ℕ → Type 0
-HasReason stop.Usage told right before now = ForSome told (λ files. right files ≡ Err stop.Usage)
+HasReason stop.Usage told right before now = ⊥
 HasReason stop.ReadFault told right before now = Rose before now ⊎ IsTold told (λ files. right files ≡ Err stop.ReadFault)
 HasReason stop.WriteFault told right before now = ⊥
 HasReason stop.DrawFault told right before now = ForSome told (λ files. right files ≡ Err stop.DrawFault)
@@ -36,8 +36,9 @@ abbrev pub GainsFront : Result (List ℕ) Stop → Option (List ℕ) → Option 
 GainsFront (Ok bytes) old new = AddsFront old new bytes
 GainsFront (Err reason) old new = ⊥
 
--- a run writes all, or a front where the output failed, or nothing and has a reason
+-- a run writes all, or a front where the output failed, or nothing where its words are of no form or it has a reason
 abbrev pub Runs : Result (Unit {0}) Stop → Option Files → (Files → Result (List ℕ) Stop) → ℕ → ℕ → Option (List ℕ) → Option (List ℕ) → Type 0
 Runs (Ok done) told right before now old new = ForSome told (λ files. GainsAll (right files) old new)
 Runs (Err stop.WriteFault) told right before now old new = ForSome told (λ files. GainsFront (right files) old new)
+Runs (Err stop.Usage) told right before now old new = (new ≡ old) × ForSome told (λ files. right files ≡ Err stop.Usage)
 Runs (Err reason) told right before now old new = (new ≡ old) × HasReason reason told right before now

@@ -60,12 +60,17 @@ count_answer words files = do
 abbrev pub answer_line : ℤ → List ℕ
 answer_line answer = codes "answer " ++ (signed_decimal answer ++ codes "\n")
 
+-- the bytes that `count` writes
+unfoldable pub line_written : CountForm → Files → Result (List ℕ) Stop
+line_written form files = do
+  answer ← count_answer form files
+  Ok (answer_line answer)
+
 -- the bytes that a run writes
 unfoldable pub written : List (List ℕ) → Files → Result (List ℕ) Stop
 written words files = do
   form ← or_stop stop.Usage (count_words words)
-  answer ← count_answer form files
-  Ok (answer_line answer)
+  line_written form files
 
 -- what a run writes, its status, and the last state of the draw source that is handed in
 pub record Outcome : Type 0 where

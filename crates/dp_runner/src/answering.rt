@@ -1,10 +1,13 @@
-ghost use Rattle.std.specs.Prelude.{◌≡◌, ◌≤◌, ◌^◌, IfOk};
+ghost use Rattle.std.specs.Prelude.{◌≡◌, ◌≤◌, ◌^◌, pos, IfOk, option_map};
+ghost use Rattle.std.specs.Result.{result_ok};
+ghost use Rattle.dp_geometric.specs.OneCell.{cell_out};
 ghost use Rattle.dp_runner.specs.Causes.{Answers};
-ghost use Rattle.dp_runner.specs.Outcome.{file_text, counted, drawn, count_answer};
+ghost use Rattle.dp_runner.specs.Outcome.{file_text, counted, drawn, cell_draws, count_answer};
 
 use crate::command::CountWords;
 use crate::stop::Stop;
 use crate::tally::{MOST_RECORDS, count_records};
+use dp_count::Failed;
 use dp_draws::{Draws, Replay, read_draws};
 use dp_io::{Shelf, read_whole};
 use std::alloc::Global;
@@ -22,10 +25,18 @@ pub(crate) fn count_answer<S: Shelf>(alloc: Global, words: &CountWords<'_>, shel
 {
     let records = count_file(alloc, shelf, words.data_name())?;
     let mut replay = replay_file(alloc, shelf, words.draws_name())?;
-    match words.cell().step(records as i64, &mut replay) {
+    match release(words, records, &mut replay) {
         Ok(answer) => Ok(answer),
         Err(_) => Err(Stop::DrawFault),
     }
+}
+
+/// The geometric release of a number of records with the ratio 1/2.
+fn release(words: &CountWords<'_>, records: u64, replay: &mut Replay) -> Result<i64, Failed>
+    requires { records ≤ 2 ^ 30 }
+    ensures { result_ok result ≡ option_map (cell_out words.now.lo words.now.hi 1 2 (pos records)) (cell_draws words.now (⟦<Replay as Draws>⟧.state replay.old)) }
+{
+    words.cell().step(records as i64, replay)
 }
 
 /// How many records a data file has.

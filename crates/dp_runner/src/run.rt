@@ -2,12 +2,12 @@ ghost use Rattle.std.specs.Prelude.{◌≡◌, ◌≢◌, ◌≤◌, ◌⊎◌, 
 ghost use Rattle.std.specs.Option.{ForSome};
 ghost use Rattle.dp_count.specs.Faults.{Rose, Still};
 ghost use Rattle.dp_runner.specs.Causes.{Answers, Runs, IsTold};
-ghost use Rattle.dp_runner.specs.Outcome.{written, outcome};
+ghost use Rattle.dp_runner.specs.Outcome.{line_written, written, outcome};
 ghost use Rattle.dp_runner.specs.RunClauses.{IsOutcome, IsComplete, GainsLines, GainsMessage, is_status};
 ghost use Rattle.dp_runner.specs.Words.{count_words};
 
 use crate::answering::count_answer;
-use crate::command::count_words;
+use crate::command::{CountWords, count_words};
 use crate::stop::Stop;
 use dp_draws::Draws;
 use dp_io::{Shelf, Sink, write_all};
@@ -87,7 +87,10 @@ fn run<S: Shelf, K: Sink>(alloc: Global, words: &[String], shelf: &mut S, out: &
     ensures later { S.faults shelf.old ≤ S.faults shelf.new }
     ensures out_later { K.faults out.old ≤ K.faults out.new }
 {
-    let line = answer_line(alloc, words, shelf)?;
+    let Some(words) = count_words(words) else {
+        return Err(Stop::Usage);
+    };
+    let line = answer_line(alloc, &words, shelf)?;
     match write_all(out, line.as_bytes()) {
         Ok(()) => Ok(()),
         Err(_) => Err(Stop::WriteFault),
@@ -95,15 +98,11 @@ fn run<S: Shelf, K: Sink>(alloc: Global, words: &[String], shelf: &mut S, out: &
 }
 
 /// The line of the answer, with its line feed.
-fn answer_line<S: Shelf>(alloc: Global, words: &[String], shelf: &mut S) -> Result<String, Stop>
-    ensures answers { Answers result string_bytes (S.files shelf.old) (written (map string_bytes words.now)) (S.faults shelf.old) (S.faults shelf.new) }
-    ensures usage { (result ≡ Err Stop.Usage) ↔ (count_words (map string_bytes words.now) ≡ None) }
+fn answer_line<S: Shelf>(alloc: Global, words: &CountWords<'_>, shelf: &mut S) -> Result<String, Stop>
+    ensures answers { Answers result string_bytes (S.files shelf.old) (line_written words.now) (S.faults shelf.old) (S.faults shelf.new) }
     ensures later { S.faults shelf.old ≤ S.faults shelf.new }
 {
-    let Some(words) = count_words(words) else {
-        return Err(Stop::Usage);
-    };
-    let answer = count_answer(alloc, &words, shelf)?;
+    let answer = count_answer(alloc, words, shelf)?;
     match format!(in alloc; "answer {answer}\n") {
         Ok(line) => Ok(line),
         Err(_) => Err(Stop::NoMemory),
