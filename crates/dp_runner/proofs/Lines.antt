@@ -99,7 +99,7 @@ outcome-all (Err reason) old new state h = absurd h
 pub lines-none : (bytes : List ℕ) (held : Option (List ℕ)) (status : ℕ) → GainsLines bytes held held status
 lines-none bytes held status = record {
   gains = record { front = []; rest = bytes; split = refl; gained = nothing-gained held };
-  whole = λ _. refl
+  whole = λ _. refl;
 }
 
 -- all was written
@@ -107,7 +107,7 @@ pub lines-all : (right : Result (List ℕ) Stop) (old new : Option (List ℕ)) (
     → GainsAll right old new → GainsLines (ended state right).bytes old new status
 lines-all (Ok bytes) old new state status lines h = record {
   gains = record { front = bytes; rest = []; split = sym (append-nil bytes); gained = h };
-  whole = λ _. lines bytes refl
+  whole = λ _. lines bytes refl;
 }
 lines-all (Err reason) old new state status lines h = absurd h
 

@@ -38,7 +38,7 @@ given-none reader text most config untrimmed flexible plain headers start source
   ready = inr (inr (plain, headers));
   left = strip_bom text;
   source = source;
-  records = rw (start, sub-zero, zero-add) refl
+  records = rw (start, sub-zero, zero-add) refl;
 }
 
 next-length : (cfg : _) (most : ℕ) (s : State) (text : List ℕ) (p : Read) → next_record cfg s [] [] text ≡ Some p → length (records_from cfg (suc most) s text) ≡ suc (length (records_from cfg most p.1 p.2))
@@ -72,7 +72,7 @@ given-more a b fields count most total h within read on =
       ready = (on.4 h.ready).0;
       left = more.0;
       source = more.1;
-      records = after-record count most total (reader_state a) (reader_state b) h.left more.0 reached.0 reached.1 reached.3.0 reached.3.1 within h.records
+      records = after-record count most total (reader_state a) (reader_state b) h.left more.0 reached.0 reached.1 reached.3.0 reached.3.1 within h.records;
     }
 
 -- no record more

@@ -19,7 +19,11 @@ const MOST_DATA: u64 = 1 << 30;
 const MOST_DRAWS: u64 = 1 << 26;
 
 /// The answer of `count`: the geometric release of the number of records.
-pub(crate) fn count_answer<S: Shelf>(alloc: Global, words: &CountWords<'_>, shelf: &mut S) -> Result<i64, Stop>
+pub(crate) fn count_answer<S: Shelf>(
+    alloc: Global,
+    words: &CountWords<'_>,
+    shelf: &mut S,
+) -> Result<i64, Stop>
     ensures answers { Answers result (λ answer. answer) (S.files shelf.old) (count_answer words.now) (S.faults shelf.old) (S.faults shelf.new) }
     ensures later { S.faults shelf.old ≤ S.faults shelf.new }
 {

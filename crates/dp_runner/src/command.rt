@@ -73,7 +73,13 @@ pub(crate) fn count_words(words: &[String]) -> Option<CountWords<'_>>
 }
 
 /// What five words say, if they are of that form.
-fn count_form<'a>(command: &str, data_name: &'a str, draws_name: &'a str, lo: &str, hi: &str) -> Option<CountWords<'a>>
+fn count_form<'a>(
+    command: &str,
+    data_name: &'a str,
+    draws_name: &'a str,
+    lo: &str,
+    hi: &str,
+) -> Option<CountWords<'a>>
     ensures { result ≡ count_form command.now data_name.now draws_name.now lo.now hi.now }
 {
     if !names_two_files(command, data_name, draws_name) {

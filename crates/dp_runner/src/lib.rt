@@ -9,3 +9,5 @@ mod tally;
 
 pub use run::run_words;
 
+#[cfg(test)]
+mod tests;

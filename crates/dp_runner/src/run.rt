@@ -80,7 +80,12 @@ pub fn run_words<S: Shelf, D: Draws, K: Sink, E: Sink>(
 }
 
 /// Answers, and writes the line of the answer.
-fn run<S: Shelf, K: Sink>(alloc: Global, words: &[String], shelf: &mut S, out: &mut K) -> Result<(), Stop>
+fn run<S: Shelf, K: Sink>(
+    alloc: Global,
+    words: &[String],
+    shelf: &mut S,
+    out: &mut K,
+) -> Result<(), Stop>
     ensures runs { Runs result (S.files shelf.old) (written (map string_bytes words.now)) (S.faults shelf.old) (S.faults shelf.new) (K.held out.old) (K.held out.new) }
     ensures usage { (result ≡ Err Stop.Usage) ↔ (count_words (map string_bytes words.now) ≡ None) }
     ensures write_fault { result ≡ Err Stop.WriteFault → Rose (K.faults out.old) (K.faults out.new) }
@@ -98,7 +103,11 @@ fn run<S: Shelf, K: Sink>(alloc: Global, words: &[String], shelf: &mut S, out: &
 }
 
 /// The line of the answer, with its line feed.
-fn answer_line<S: Shelf>(alloc: Global, words: &CountWords<'_>, shelf: &mut S) -> Result<String, Stop>
+fn answer_line<S: Shelf>(
+    alloc: Global,
+    words: &CountWords<'_>,
+    shelf: &mut S,
+) -> Result<String, Stop>
     ensures answers { Answers result string_bytes (S.files shelf.old) (line_written words.now) (S.faults shelf.old) (S.faults shelf.new) }
     ensures later { S.faults shelf.old ≤ S.faults shelf.new }
 {

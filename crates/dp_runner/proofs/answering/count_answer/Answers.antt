@@ -13,16 +13,16 @@ pub returns-in_err-records-clause-answers : goal.returns-in_err-records-clause-a
 returns-in_err-records-clause-answers g c =
     let p = err_from_is_err_and c.from_residual.result c.from_residual.ensures.1 in
     rw (p.1, p.2) (reason-carries c.in_err-records.field-0.0 _ (λ files. counted files c.data_name.result.now) (count_answer c.args.words.now) _ _ _ _
-        (λ files is h. count-no_data c.args.words.now files _ _ c.data_name.ensures h) (omega arith) (omega arith) c.in_err-records.ensures.answers)
+    (λ files is h. count-no_data c.args.words.now files _ _ c.data_name.ensures h) (omega arith) (omega arith) c.in_err-records.ensures.answers)
 
 pub returns-in_err-replay-clause-answers : goal.returns-in_err-replay-clause-answers
 returns-in_err-replay-clause-answers g c =
     let p = err_from_is_err_and c.from_residual-in_err-replay.result c.from_residual-in_err-replay.ensures.1 in
     let early = c.in_ok-records.ensures.later in
     rw (p.1, p.2) (reason-carries c.in_err-replay.field-0.0 (g.S.Shelf.files c.args.shelf.now) (λ files. drawn files c.draws_name.result.now) (count_answer c.args.words.now)
-        (g.S.Shelf.faults c.args.shelf.now) (g.S.Shelf.faults c.count_file.new.shelf) (g.S.Shelf.faults c.replay_file.new.shelf) (g.S.Shelf.faults c.replay_file.new.shelf)
-        (λ files is h. count-no_numbers c.args.words.now files _ _ _ _ c.data_name.ensures c.draws_name.ensures (c.in_ok-records.ensures.answers files is) h)
-        early (omega arith) (rw c.in_ok-records.ensures.same_files at c.in_err-replay.ensures.answers))
+    (g.S.Shelf.faults c.args.shelf.now) (g.S.Shelf.faults c.count_file.new.shelf) (g.S.Shelf.faults c.replay_file.new.shelf) (g.S.Shelf.faults c.replay_file.new.shelf)
+    (λ files is h. count-no_numbers c.args.words.now files _ _ _ _ c.data_name.ensures c.draws_name.ensures (c.in_ok-records.ensures.answers files is) h)
+    early (omega arith) (rw c.in_ok-records.ensures.same_files at c.in_err-replay.ensures.answers))
 
 pub returns-in-Ok-clause-answers : goal.returns-in-Ok-clause-answers
 returns-in-Ok-clause-answers g c = λ files is.

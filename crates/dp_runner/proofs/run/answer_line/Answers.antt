@@ -9,7 +9,7 @@ pub returns-in_err-answer-clause-answers : goal.returns-in_err-answer-clause-ans
 returns-in_err-answer-clause-answers g c =
     let p = err_from_is_err_and c.from_residual.result c.from_residual.ensures.1 in
     rw (p.1, p.2) (reason-carries c.in_err-answer.field-0.0 _ (count_answer c.args.words.now) (line_written c.args.words.now) _ _ _ _
-        (λ files is h. line-no_answer c.args.words.now files _ h) (omega arith) (omega arith) c.in_err-answer.ensures.answers)
+    (λ files is h. line-no_answer c.args.words.now files _ h) (omega arith) (omega arith) c.in_err-answer.ensures.answers)
 
 pub returns-in-Ok-clause-answers : goal.returns-in-Ok-clause-answers
 returns-in-Ok-clause-answers g c = λ files is.
