@@ -1,5 +1,5 @@
 -- The steps of `count`, one after another.
-use Rattle.std.proofs.Common.{◌≡◌, ◌∙◌, ◌^◌, ℕ, List, length, Option, Some, None, Result, Ok, Err, refl, sym, ap}
+use Rattle.std.proofs.Common.{◌≡◌, ◌∙◌, ◌^◌, ℕ, List, length, Option, Some, None, Ok, Err, refl, sym, ap}
 use Rattle.std.specs.Prelude.{ℤ, pos, option_map}
 use Rattle.std.specs.Option.{ForSome}
 use Rattle.dp_io.specs.Shelf.{Files}

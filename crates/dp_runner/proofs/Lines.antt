@@ -1,6 +1,6 @@
 -- The line that a run writes.
-use Rattle.std.proofs.Common.{◌≡◌, ◌≢◌, ◌∙◌, ◌≤◌, ◌<◌, ◌^◌, ◌+◌, ◌-◌, min, ℕ, true, List, [], ◌∷◌, ◌++◌, length, Option, Some, None, Result, Ok, Err, refl, sym, ap, arith, inl, inr, append_assoc}
-use Rattle.std.specs.Prelude.{ℤ, pos, codes, option_map}
+use Rattle.std.proofs.Common.{◌≡◌, ◌∙◌, ◌≤◌, ◌^◌, ℕ, true, List, [], ◌∷◌, ◌++◌, length, Option, Some, None, Result, Ok, Err, refl, sym, ap, arith, inl, inr, append_assoc}
+use Rattle.std.specs.Prelude.{ℤ, pos, codes}
 use Rattle.std.specs.Option.{ForSome}
 use Rattle.std.specs.Fmt.{signed_decimal}
 use Rattle.std.proofs.lemmas.List.{append-nil}
@@ -16,7 +16,7 @@ use Rattle.dp_runner.specs.Words.{CountForm, count_words}
 use Rattle.dp_runner.specs.RawRecords.{raw}
 use Rattle.dp_runner.specs.Outcome.{◌>>=◌, or_stop, text_within, file_text, counted, drawn, cell_draws, count_answer, answer_line, line_written, written, ended}
 use Rattle.dp_runner.specs.Causes.{HasReason, Runs, GainsAll, GainsFront}
-use Rattle.dp_runner.specs.RunClauses.{are_lines, IsOutcome, GainsLines, IsComplete, WritesAnswer}
+use Rattle.dp_runner.specs.RunClauses.{are_lines, IsOutcome, GainsLines, IsComplete}
 use Rattle.dp_runner.specs.Stops.{status_of}
 use Rattle.dp_runner.proofs.Steps.{bind-ok, bind-err}
 use Rattle.dp_runner.proofs.CountSteps.{count-taken}

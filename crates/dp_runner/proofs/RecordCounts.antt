@@ -1,8 +1,8 @@
 -- How many records a reader gave and has yet to give.
-use Rattle.std.proofs.Common.{◌≡◌, ℕ, zero, suc, ◌+◌, ◌-◌, ◌<◌, ◌≤◌, List, [], ◌∷◌, length, Bool, true, false, Option, Some, None, refl, sym, ap, ◌∙◌, arith, Bor, inr, zero-add}
+use Rattle.std.proofs.Common.{◌≡◌, ℕ, zero, suc, ◌+◌, ◌-◌, ◌<◌, ◌≤◌, List, [], length, true, false, Option, Some, None, refl, ◌∙◌, arith, Bor, inr, zero-add}
 use Rattle.std.proofs.Math.Nat.{sub-zero}
 use Rattle.csv.specs.Machine.{next_record, Read}
-use Rattle.csv.specs.Reading.{records_from, records_next, default_config, strip_bom, source_of, Reached, ReadRecord, Ready, ReadsOn, is_flexible, names_headers, reader_headers, reader_config, reader_state, reader_trim}
+use Rattle.csv.specs.Reading.{records_from, default_config, strip_bom, source_of, Reached, ReadRecord, Ready, ReadsOn, is_flexible, names_headers, reader_headers, reader_config, reader_state, reader_trim}
 use Rattle.csv.specs.declared.reader.Reader.{Reader}
 use Rattle.csv.specs.declared.reader.Trim.TheVariants as trim
 use Rattle.csv.specs.declared.parser.State.{State}

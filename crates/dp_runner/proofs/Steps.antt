@@ -1,13 +1,11 @@
 -- One step of a run after another.
-use Rattle.std.proofs.Common.{◌≡◌, ◌∙◌, ◌≤◌, ◌^◌, ◌+◌, ◌-◌, ℕ, List, [], ◌++◌, length, min, Option, Some, None, Result, Ok, Err, refl, sym, ap, arith, inl, inr, ⊎_elim}
-use Rattle.std.specs.Prelude.{◌⊎◌, ℤ, pos, option_map}
-use Rattle.std.specs.Option.{ForSome}
+use Rattle.std.proofs.Common.{◌≡◌, ◌≤◌, ℕ, Option, Some, Result, Ok, Err, ap, arith, inl, inr, ⊎_elim}
 use Rattle.dp_count.specs.Faults.{Rose}
 use Rattle.dp_io.specs.Shelf.{Files}
 use Rattle.dp_runner.specs.declared.stop.Stop.{Stop}
 use Rattle.dp_runner.specs.declared.stop.Stop.TheVariants as stop
-use Rattle.dp_runner.specs.Causes.{HasReason, IsTold, Answers}
-use Rattle.dp_runner.specs.Outcome.{◌>>=◌, or_stop}
+use Rattle.dp_runner.specs.Causes.{HasReason}
+use Rattle.dp_runner.specs.Outcome.{◌>>=◌}
 
 pub bind-ok : {A B : Type 0} (r : Result A Stop) (next : A → Result B Stop) (x : A) → r ≡ Ok x → (r >>= next) ≡ next x
 bind-ok r next x e = ap (λ w. w >>= next) e

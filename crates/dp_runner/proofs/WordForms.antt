@@ -1,5 +1,5 @@
 -- The form of five words, and of any other number of words.
-use Rattle.std.proofs.Common.{◌≡◌, ◌≢◌, ℕ, ◌≤◌, ◌<◌, List, [], ◌∷◌, length, map, get_or, None, refl, sym, arith}
+use Rattle.std.proofs.Common.{◌≡◌, ◌≢◌, ℕ, List, [], ◌∷◌, length, map, get_or, None, refl, arith}
 use Rattle.dp_runner.specs.Words.{count_words, count_form}
 
 pub five-words : {W : Type 0} (bytes : W → List ℕ) (words : List W) (a b c d e : W) → length words ≡ 5

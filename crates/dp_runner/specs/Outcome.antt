@@ -1,8 +1,7 @@
 -- What a run writes and answers, where nothing fails: a definition over whole texts.
-use Rattle.std.specs.Prelude.{◌≡◌, ℕ, ℤ, pos, ◌^◌, ◌++◌, List, [], ◌∷◌, length, Option, Some, None, Result, Ok, Err, if◌then◌else◌, nat_le, codes}
+use Rattle.std.specs.Prelude.{ℕ, ℤ, pos, ◌^◌, ◌++◌, List, [], length, Option, Some, None, Result, Ok, Err, if◌then◌else◌, nat_le, codes}
 use Rattle.std.specs.Fmt.{signed_decimal}
 use Rattle.dp_io.specs.Shelf.{Files}
-use Rattle.dp_io.specs.Sink.{appended}
 use Rattle.dp_draws.specs.Taking.{take_draws}
 use Rattle.dp_draws.specs.Sources.{replay_step}
 use Rattle.dp_draws.specs.Numbers.{drawn_numbers}

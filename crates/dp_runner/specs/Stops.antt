@@ -1,5 +1,5 @@
 -- Why a run may end before its end: the statuses and their lines.
-use Rattle.std.specs.Prelude.{ℕ, List, [], ◌++◌, codes}
+use Rattle.std.specs.Prelude.{ℕ, List, codes}
 use Rattle.dp_io.specs.declared.faults.OpenFault.{OpenFault}
 use Rattle.dp_io.specs.declared.faults.OpenFault.TheVariants as open_fault
 use Rattle.dp_io.specs.declared.faults.WholeFault.{WholeFault}

@@ -1,5 +1,5 @@
 -- The words of a command line.
-use Rattle.std.specs.Prelude.{ℕ, ℤ, pos, neg_ℤ, ◌-ℤ◌, ◌≤ℤ◌, ◌&&◌, ◌^◌, not, Bool, List, [], ◌∷◌, length, Option, Some, None, if◌then◌else◌, nat_lt, option_and_then, option_map, codes, int_le}
+use Rattle.std.specs.Prelude.{ℕ, ℤ, pos, neg_ℤ, ◌-ℤ◌, ◌≤ℤ◌, ◌&&◌, ◌^◌, Bool, List, [], ◌∷◌, length, Option, Some, None, if◌then◌else◌, nat_lt, option_and_then, option_map, codes, int_le}
 use Rattle.std.specs.Str.{bytes_eq}
 use Rattle.dp_count.specs.Digits.{signed_decimal}
 

@@ -1,7 +1,6 @@
 use Rattle.std.proofs.Common.{◌≡◌, ◌∙◌, sym, arith, ◌≢◌, length}
 use Rattle.std.specs.Prelude.{string_bytes}
 use Rattle.std.proofs.lemmas.Bool.Decides.{nat_tests}
-use Rattle.dp_runner.specs.Words.{count_form}
 use Rattle.dp_runner.proofs.WordForms.{five-words, other-words}
 use Rattle.dp_runner.proofs.command.count_words.Goals as goal
 use Rattle.dp_runner.proofs.command.count_words.Goals.{in_default-via-then-words-lt5, in_default-via-else-words-lt5+else-words-lt6}

@@ -1,7 +1,7 @@
-use Rattle.std.proofs.Common.{◌≡◌, ◌∙◌, sym, arith, ap, refl, rules, Ok}
+use Rattle.std.proofs.Common.{◌∙◌, arith, ap, rules, Ok}
 use Rattle.std.proofs.lemmas.Result.{err_from_is_err_and}
 use Rattle.dp_runner.specs.Outcome.{count_answer, line_written}
-use Rattle.dp_runner.proofs.Steps.{reason-carries, bind-ok}
+use Rattle.dp_runner.proofs.Steps.{reason-carries}
 use Rattle.dp_runner.proofs.Lines.{line-no_answer, line-answer}
 use Rattle.dp_runner.proofs.run.answer_line.Goals as goal
 

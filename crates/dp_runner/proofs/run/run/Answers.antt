@@ -1,8 +1,7 @@
-use Rattle.std.proofs.Common.{◌≡◌, ◌∙◌, sym, arith, ap, refl, rules}
+use Rattle.std.proofs.Common.{◌∙◌, sym, ap, refl}
 use Rattle.std.specs.Prelude.{string_bytes, map}
 use Rattle.dp_io.specs.Sink.{appended}
 use Rattle.std.proofs.lemmas.Result.{err_from_is_err_and}
-use Rattle.dp_runner.specs.Outcome.{written}
 use Rattle.dp_runner.proofs.Lines.{written-no_form, runs-reason, runs-written, runs-front}
 use Rattle.dp_runner.proofs.run.run.Goals as goal
 

@@ -1,4 +1,4 @@
-use Rattle.std.proofs.Common.{◌≡◌, map, ap, Err}
+use Rattle.std.proofs.Common.{map, ap, Err}
 use Rattle.std.specs.Prelude.{string_bytes}
 use Rattle.dp_runner.specs.Outcome.{written}
 use Rattle.dp_runner.proofs.Lines.{written-lines, outcome-all, lines-all, early-lines, complete-all, complete-early}

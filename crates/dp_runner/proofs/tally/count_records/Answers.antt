@@ -1,4 +1,4 @@
-use Rattle.std.proofs.Common.{◌≡◌, ◌∙◌, sym, length, ◌≤◌, ◌+◌, arith, ap, refl, rules}
+use Rattle.std.proofs.Common.{arith, rules}
 use Rattle.dp_runner.proofs.RecordCounts.{given-none, given-more, given-end, given-most}
 use Rattle.dp_runner.proofs.tally.count_records.Goals as goal
 
