@@ -21,6 +21,7 @@ impl NoDraws {
 }
 
 impl Draws for NoDraws {
+    ghost use Rattle.dp_draws.specs.Views.{no_draws_faults};
     ghost use Rattle.dp_draws.specs.Sources.{no_step};
     ghost use Rattle.dp_draws.specs.SourceLaws.{nothing_below};
     ghost use Rattle.std.specs.Prelude.{[]};
@@ -29,7 +30,7 @@ impl Draws for NoDraws {
 
     ghost step = { no_step };
 
-    ghost faults = { λ source. source.failed };
+    ghost faults = { no_draws_faults };
 
     fn below(&mut self, _m: u64) -> Result<u64, Failed> {
         self.failed = self.failed.saturating_add(1);

@@ -1,4 +1,4 @@
-ghost use Rattle.std.specs.Prelude.{◌≡◌, ◌<◌, ◌^◌, drop};
+ghost use Rattle.std.specs.Prelude.{◌≡◌, ◌<◌, ◌^◌};
 
 use crate::Draws;
 use dp_count::Failed;
@@ -27,14 +27,15 @@ impl Replay {
 }
 
 impl Draws for Replay {
+    ghost use Rattle.dp_draws.specs.Views.{numbers_left, replay_faults};
     ghost use Rattle.dp_draws.specs.Sources.{replay_step};
     ghost use Rattle.dp_draws.specs.SourceLaws.{replay_below};
 
-    ghost state = { λ source. drop source.place source.list.items };
+    ghost state = { numbers_left };
 
     ghost step = { replay_step };
 
-    ghost faults = { λ source. source.failed };
+    ghost faults = { replay_faults };
 
     fn below(&mut self, m: u64) -> Result<u64, Failed> {
         if let Some(number) = self.list.get(self.place)
