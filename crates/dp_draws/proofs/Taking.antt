@@ -1,5 +1,5 @@
 -- Taking draws, bound by bound and part by part.
-use Rattle.std.proofs.Common.{◌≡◌, ℕ, ◌<◌, ◌≤◌, List, [], ◌∷◌, ◌++◌, Option, Some, None, refl, ap, ◌∙◌, subst, All}
+use Rattle.std.proofs.Common.{◌≡◌, ℕ, suc, length, ◌<◌, ◌≤◌, List, [], ◌∷◌, ◌++◌, Option, Some, None, refl, sym, ap, ◌∙◌, subst, All}
 use Rattle.std.specs.Prelude.{option_map}
 use Rattle.std.proofs.lemmas.List.Elements.{All-head, All-tail}
 use Rattle.dp_count.specs.DrawLists.{IsDrawList}
@@ -87,3 +87,22 @@ unfolding take_draws IsDrawList
 take_draws-list step below state [] draws positive taken = let same : [] ≡ draws = cc in subst (λ (l : List ℕ). IsDrawList [] l) same tt
 take_draws-list step below state (bound ∷ shape) draws positive taken =
     list-by (step state bound).draw bound (step state bound).next shape (λ next. take_draws step next shape) draws (λ draw. below state bound draw (All-head (λ b. 1 ≤ b) bound shape positive)) (λ ds. take_draws-list step below (step state bound).next shape ds (All-tail (λ b. 1 ≤ b) bound shape positive)) taken
+
+length-more : (draw : ℕ) (rest : Option (List ℕ)) (shape draws : List ℕ) → ((ds : List ℕ) → rest ≡ Some ds → length ds ≡ length shape) → option_map (λ ds. draw ∷ ds) rest ≡ Some draws → length draws ≡ suc (length shape)
+length-more draw None shape draws later taken = absurd (cc)
+length-more draw (Some ds) shape draws later taken =
+    let same : draw ∷ ds ≡ draws = cc in
+    sym (ap length same) ∙ ap suc (later ds refl)
+
+length-by : (first : Option ℕ) (next shape : List ℕ) (rest : List ℕ → Taken) (draws : List ℕ) → ((ds : List ℕ) → (rest next).draws ≡ Some ds → length ds ≡ length shape) → (going_on first next rest).draws ≡ Some draws → length draws ≡ suc (length shape)
+length-by None next shape rest draws later taken = absurd (cc)
+length-by (Some draw) next shape rest draws later taken = length-more draw (rest next).draws shape draws later taken
+
+-- as many draws as bounds
+pub take_draws-length : (step : List ℕ → ℕ → Turn) (state shape draws : List ℕ) → (take_draws step state shape).draws ≡ Some draws → length draws ≡ length shape
+unfolding take_draws
+take_draws-length step state [] draws taken =
+    let same : [] ≡ draws = cc in
+    sym (ap length same)
+take_draws-length step state (bound ∷ shape) draws taken =
+    length-by (step state bound).draw (step state bound).next shape (λ next. take_draws step next shape) draws (λ ds. take_draws-length step (step state bound).next shape ds) taken

@@ -2,3 +2,4 @@ pub mod Numbers
 pub mod SourceLaws
 pub mod Sources
 pub mod Taking
+pub mod Views

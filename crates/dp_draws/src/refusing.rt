@@ -21,6 +21,7 @@ impl NoDraws {
 }
 
 impl Draws for NoDraws {
+    ghost use Rattle.dp_draws.specs.Views.{no_draws_faults};
     ghost use Rattle.dp_draws.specs.Sources.{no_step};
     ghost use Rattle.dp_draws.specs.SourceLaws.{nothing_below};
     ghost use Rattle.std.specs.Prelude.{[]};
@@ -29,7 +30,7 @@ impl Draws for NoDraws {
 
     ghost step = { no_step };
 
-    ghost faults = { λ source. source.failed };
+    ghost faults = { no_draws_faults };
 
     fn below(&mut self, _m: u64) -> Result<u64, Failed> {
         self.failed = self.failed.saturating_add(1);
@@ -39,4 +40,17 @@ impl Draws for NoDraws {
     ghost draw_below = { nothing_below };
 
     ghost few_faults = { λ source. source.few };
+}
+
+#[cfg(test)]
+mod tests {
+    use super::*;
+
+    #[test]
+    fn no_draw_is_given(rt: HostRuntime) {
+        let mut source = NoDraws::new();
+        assert_eq!(rt; source.below(3), Err(Failed));
+        assert_eq!(rt; source.below(1), Err(Failed));
+        assert_eq!(rt; source.failed, 2);
+    }
 }

@@ -1,0 +1,16 @@
+-- What is seen of the draw sources.
+use Rattle.std.specs.Prelude.{ℕ, List, drop}
+use Rattle.dp_draws.specs.declared.replaying.Replay.{Replay}
+use Rattle.dp_draws.specs.declared.refusing.NoDraws.{NoDraws}
+
+-- the numbers that a replay has still to give
+abbrev pub numbers_left : Replay → List ℕ
+numbers_left source = drop source.place source.list.items
+
+-- how many faults a replay has met
+abbrev pub replay_faults : Replay → ℕ
+replay_faults source = source.failed
+
+-- how many faults a source that always fails has met
+abbrev pub no_draws_faults : NoDraws → ℕ
+no_draws_faults source = source.failed
