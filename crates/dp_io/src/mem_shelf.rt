@@ -116,6 +116,14 @@ impl MemShelf {
         self.stored.push(StoredFile { name, bytes })?;
         Ok(())
     }
+
+    /// How many calls failed.
+    #[cfg(test)]
+    pub(crate) fn failed(&self) -> u64
+        ensures { result ≡ self.now.calls.failed }
+    {
+        self.calls.failed()
+    }
 }
 
 /// The bytes of the file of that name.

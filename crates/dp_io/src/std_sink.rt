@@ -9,6 +9,7 @@ use std::marker::Model;
 use std::rt::{Stderr, Stdout};
 
 /// A standard stream of a process.
+#[derive(Drop)]
 enum Stream {
     Output(Stdout),
     Error(Stderr),
@@ -29,6 +30,7 @@ impl Stream {
 /// The standard output or the standard error. It tells no bytes.
 ///
 /// Contracts see its count of faults, which rises at every `Err`. A write that took nothing is one.
+#[derive(Drop)]
 pub struct StdSink {
     stream: Stream,
     failed: u64,
