@@ -11,7 +11,10 @@ fn shelf_with_data(alloc: Global, piece: usize, fails: Vec<u64>) -> Result<MemSh
     requires { 0 < piece }
 {
     let mut shelf = MemShelf::new(alloc, piece, fails);
-    shelf.add(String::from_str(alloc, "data")?, Vec::from_slice(alloc, b"xyz")?)?;
+    shelf.add(
+        String::from_str(alloc, "data")?,
+        Vec::from_slice(alloc, b"xyz")?,
+    )?;
     Ok(shelf)
 }
 
@@ -46,7 +49,11 @@ fn unknown_name_is_a_call_and_fails_without_a_fault(rt: HostRuntime) -> Result<(
 }
 
 /// The length of what `read_whole` gives of the file "data".
-fn whole_length(alloc: Global, fails: Vec<u64>, limit: u64) -> Result<Result<usize, WholeFault>, Fail> {
+fn whole_length(
+    alloc: Global,
+    fails: Vec<u64>,
+    limit: u64,
+) -> Result<Result<usize, WholeFault>, Fail> {
     let mut shelf = shelf_with_data(alloc, 2, fails)?;
     let slot = shelf.open(alloc, "data")?;
     Ok(read_whole(alloc, &mut shelf, slot, limit).map(|bytes| bytes.len()))
@@ -61,7 +68,11 @@ fn whole_file_up_to_the_limit(rt: HostRuntime) -> Result<(), Fail> {
         (3, 3, Err(WholeFault::Failed)),
     ];
     for (limit, fail, wanted) in table {
-        assert_eq!(rt; whole_length(alloc, vec![in alloc; fail]?, limit)?, wanted, "limit {limit}");
+        assert_eq!(rt;
+            whole_length(alloc, vec![in alloc; fail]?, limit)?,
+            wanted,
+            "limit {limit}"
+        );
     }
     Ok(())
 }
