@@ -1,0 +1,2 @@
+pub mod RecordCounts
+pub mod WordForms
