@@ -44,4 +44,12 @@ impl Calls {
         }
         Ok(())
     }
+
+    /// How many calls failed.
+    #[cfg(test)]
+    pub(crate) fn failed(&self) -> u64
+        ensures { result ≡ self.now.failed }
+    {
+        self.failed
+    }
 }

@@ -59,6 +59,13 @@ impl<R: Files + Input> FileShelf<R> {
         }
     }
 
+    /// Counts a fault.
+    fn count_fault(&mut self)
+        ensures { self.new ≡ record self.old { failed = one_more self.old.failed } }
+    {
+        self.failed = self.failed.saturating_add(1);
+    }
+
     /// What a slot of that name reads.
     fn source(&self, name: &str) -> io::Result<Source<R::File, R::Reader>> {
         if name == "-" {
@@ -88,13 +95,13 @@ impl<R: Files + Input> Shelf for FileShelf<R> {
         let source = match self.source(name) {
             Ok(source) => source,
             Err(error) => {
-                self.failed = self.failed.saturating_add(1);
+                self.count_fault();
                 return Err(open_fault(error.kind()));
             }
         };
         let slot = Slot::new(self.sources.len());
         if self.sources.push(source).is_err() {
-            self.failed = self.failed.saturating_add(1);
+            self.count_fault();
             return Err(OpenFault::NoMemory);
         }
         Ok(slot)
@@ -108,7 +115,7 @@ impl<R: Files + Input> Shelf for FileShelf<R> {
         ensures failed { self.new.failed ≡ (if is_ok result then self.old.failed else one_more self.old.failed) }
     {
         let Ok(n) = self.sources[slot.number()].read(buf) else {
-            self.failed = self.failed.saturating_add(1);
+            self.count_fault();
             return Err(Failed);
         };
         Ok(n)

@@ -22,3 +22,6 @@ pub use sink::{Sink, write_all};
 pub use slot::Slot;
 pub use std_sink::StdSink;
 pub use whole::read_whole;
+
+#[cfg(test)]
+mod tests;

@@ -91,10 +91,10 @@ impl MemShelf {
     pub fn new(alloc: Global, piece: usize, fails: Vec<u64>) -> MemShelf
         requires { 1 ≤ piece }
         ensures { result ≡ record {
-            piece = piece;
-            stored = [];
-            rests = [];
-            calls = record { fails = fails.items; made = 0; failed = 0 };
+          piece = piece;
+          stored = [];
+          rests = [];
+          calls = record { fails = fails.items; made = 0; failed = 0 };
         } }
     {
         MemShelf {
@@ -109,12 +109,20 @@ impl MemShelf {
     pub fn add(&mut self, name: String, bytes: Vec<u8>) -> Result<(), NoMemory>
         requires { bytes_of self.old.stored (string_bytes name) ≡ None }
         ensures ok { OnOk result (self.new ≡ record self.old {
-            stored = self.old.stored ++ record { name = string_bytes name; bytes = bytes.items } ∷ [];
+          stored = self.old.stored ++ record { name = string_bytes name; bytes = bytes.items } ∷ [];
         }) }
         ensures err { OnErr result (self.new ≡ self.old) }
     {
         self.stored.push(StoredFile { name, bytes })?;
         Ok(())
+    }
+
+    /// How many calls failed.
+    #[cfg(test)]
+    pub(crate) fn failed(&self) -> u64
+        ensures { result ≡ self.now.calls.failed }
+    {
+        self.calls.failed()
     }
 }
 

@@ -33,13 +33,18 @@ impl Model for MemSink {
 
 impl MemSink {
     /// Holds nothing. A write takes at most `piece` bytes; the calls whose numbers, from 1, are in `fails` fail.
-    pub fn new(alloc: Global, piece: usize, fails: Vec<u64>, cap: usize) -> Result<MemSink, NoMemory>
+    pub fn new(
+        alloc: Global,
+        piece: usize,
+        fails: Vec<u64>,
+        cap: usize,
+    ) -> Result<MemSink, NoMemory>
         requires { 1 ≤ piece }
         ensures { IfOk result (λ sink. sink ≡ record {
-            piece = piece;
-            cap = cap;
-            bytes = [];
-            calls = record { fails = fails.items; made = 0; failed = 0 };
+          piece = piece;
+          cap = cap;
+          bytes = [];
+          calls = record { fails = fails.items; made = 0; failed = 0 };
         }) }
     {
         Ok(MemSink {

@@ -13,7 +13,12 @@ const BUFFER_BYTES: usize = 65_536;
 ///
 /// `TooLong` comes exactly where more than `limit` bytes are left and no read failed. `Failed` comes only where the
 /// shelf's count of faults rose. After either the slot holds a rest of what it held.
-pub fn read_whole<S: Shelf>(alloc: Global, shelf: &mut S, slot: Slot, limit: u64) -> Result<Vec<u8>, WholeFault>
+pub fn read_whole<S: Shelf>(
+    alloc: Global,
+    shelf: &mut S,
+    slot: Slot,
+    limit: u64,
+) -> Result<Vec<u8>, WholeFault>
     requires { slot < S.slots shelf.old }
     ensures short { IfOk result (λ bytes. length bytes.items ≤ limit) }
     ensures whole { IfOk result (λ bytes. ForSome (S.left shelf.old slot) (λ left. bytes.items ≡ left)) }

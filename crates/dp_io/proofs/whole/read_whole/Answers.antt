@@ -9,5 +9,5 @@ returns-then-n-limit-clause-rest g c = KeepsRest-more _ _ _ _ _ _ c.loop-bytes.i
 pub returns-in_err-extend_from_slice-clause-rest : goal.returns-in_err-extend_from_slice-clause-rest
 returns-in_err-extend_from_slice-clause-rest g c =
     let kept : KeepsRest (g.S.Shelf.left c.args.shelf.now c.args.slot) (g.S.Shelf.left c.read.new.self c.args.slot) =
-        KeepsRest-more _ _ _ _ _ _ c.loop-bytes.invariant.6 c.in_ok-n.ensures.takes in
+    KeepsRest-more _ _ _ _ _ _ c.loop-bytes.invariant.6 c.in_ok-n.ensures.takes in
     search (rules, kept)
