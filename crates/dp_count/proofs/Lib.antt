@@ -1,1 +1,5 @@
+pub mod Counting
+pub mod LeadingRun
+pub mod Ratios
+pub mod Slots
 pub mod Spelling

@@ -1,3 +1,6 @@
+pub mod CountingLaws
 pub mod Digits
 pub mod DrawLists
 pub mod Faults
+pub mod Ratios
+pub mod Slots

@@ -5,6 +5,7 @@
 mod digits;
 mod faults;
 mod items;
+pub mod laws;
 
 pub use digits::{decimal, short_decimal, signed_decimal};
 pub use faults::{Failed, NoMemory};

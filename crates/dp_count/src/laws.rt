@@ -1,0 +1,43 @@
+//! The laws of the number of draw lists that meet a test. Each is the contract of a function that does nothing.
+ghost use Rattle.dp_count.specs.CountingLaws.{ProductLaw, CutLaw, BlockLaw, RunLaw, WholeRunLaw, LongRunLaw, IntervalLaw, EitherLaw, WholeLaw, SlotsLaw, RatioProductLaw, RatioGrowthLaw, RatioListLaw};
+
+/// The numbers of draw lists of joined shapes multiply.
+pub fn product_law()
+    ensures product { ProductLaw }
+    ensures cut { CutLaw }
+{}
+
+/// A draw that is not looked at multiplies the number by its bound.
+pub fn block_law()
+    ensures { BlockLaw }
+{}
+
+/// How many lists of n draws begin with exactly, or at least, g draws below a limit.
+pub fn run_law()
+    ensures exact { RunLaw }
+    ensures whole { WholeRunLaw }
+    ensures long { LongRunLaw }
+{}
+
+/// How many draws lie in an interval.
+pub fn interval_law()
+    ensures { IntervalLaw }
+{}
+
+/// The numbers of tests that are never both met add, and all draw lists are the product of the bounds.
+pub fn sum_law()
+    ensures either { EitherLaw }
+    ensures whole { WholeLaw }
+{}
+
+/// Of several slots side by side, the number of draw lists with the wanted replies is the product of the slots' numbers.
+pub fn slots_law<R>()
+    ensures { SlotsLaw R }
+{}
+
+/// How pairs of numbers that keep a ratio combine: by products, at greater exponents, and in lists.
+pub fn ratio_law()
+    ensures product { RatioProductLaw }
+    ensures growth { RatioGrowthLaw }
+    ensures list { RatioListLaw }
+{}
