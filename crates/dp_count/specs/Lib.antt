@@ -1,3 +1,4 @@
+pub mod Bounds
 pub mod CountingLaws
 pub mod Digits
 pub mod DrawLists

@@ -6,7 +6,9 @@ mod digits;
 mod faults;
 mod items;
 pub mod laws;
+mod shape;
 
 pub use digits::{decimal, short_decimal, signed_decimal};
 pub use faults::{Failed, NoMemory};
 pub use items::Items;
+pub use shape::Shape;
