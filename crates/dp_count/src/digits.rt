@@ -1,4 +1,4 @@
-ghost use Rattle.std.specs.Prelude.{◌≡◌, ◌≤◌, ◌^◌, ◌+◌, ◌*◌, ◌-◌, if◌then◌else◌, None};
+ghost use Rattle.std.specs.Prelude.{◌≡◌, ◌≤◌, ◌<◌, ◌^◌, ◌+◌, ◌*◌, ◌-◌, if◌then◌else◌, None, IfSome, option_map, pos, neg_ℤ};
 ghost use Rattle.std.specs.Char.{is_ascii_digit};
 ghost use Rattle.dp_count.specs.Digits.{decimal, short_decimal, signed_decimal, word};
 
@@ -19,7 +19,8 @@ pub fn decimal(bytes: &[u8]) -> Option<u64>
 /// The number that 1 to `longest` ASCII digits spell, where the bytes are nothing else. At most 19 digits fit.
 pub fn short_decimal(bytes: &[u8], longest: usize) -> Option<u64>
     requires { longest ≤ 19 }
-    ensures { result ≡ short_decimal longest bytes.now }
+    ensures number { result ≡ short_decimal longest bytes.now }
+    ensures below { IfSome result (λ n. n < 10 ^ longest) }
 {
     if bytes.len() > longest {
         return None;
@@ -32,10 +33,28 @@ pub fn signed_decimal(bytes: &[u8], longest: usize) -> Option<i64>
     requires { longest ≤ 18 }
     ensures { result ≡ signed_decimal longest bytes.now }
 {
-    match bytes {
-        [b'-', digits @ ..] => Some(-(short_decimal(digits, longest)? as i64)),
-        _ => Some(short_decimal(bytes, longest)? as i64),
+    let (first, rest) = bytes.split_first()?;
+    if *first == b'-' {
+        negative(rest, longest)
+    } else {
+        positive(bytes, longest)
     }
+}
+
+fn positive(bytes: &[u8], longest: usize) -> Option<i64>
+    requires { longest ≤ 18 }
+    ensures { result ≡ option_map pos (short_decimal longest bytes.now) }
+{
+    let number = short_decimal(bytes, longest)?;
+    Some(number as i64)
+}
+
+fn negative(bytes: &[u8], longest: usize) -> Option<i64>
+    requires { longest ≤ 18 }
+    ensures { result ≡ option_map (λ n. neg_ℤ (pos n)) (short_decimal longest bytes.now) }
+{
+    let number = short_decimal(bytes, longest)?;
+    Some(-(number as i64))
 }
 
 /// The number with one more digit at its end.
@@ -46,4 +65,52 @@ fn with_digit(number: u64, byte: u8) -> Option<u64>
         return None;
     }
     number.checked_mul(10)?.checked_add(u64::from(byte - b'0'))
+}
+
+#[cfg(test)]
+mod tests {
+    use super::*;
+
+    #[test]
+    fn digits_and_nothing_else_spell_a_number(rt: HostRuntime) {
+        for (text, number) in [
+            ("", None),
+            ("0", Some(0)),
+            ("007", Some(7)),
+            ("12x", None),
+            ("+5", None),
+            ("-5", None),
+            (" 5", None),
+            ("18446744073709551615", Some(18446744073709551615)),
+            ("18446744073709551616", None),
+            ("00000000000000000000012", Some(12)),
+        ] {
+            assert_eq!(rt; decimal(text.as_bytes()), number, "{text}");
+        }
+    }
+
+    #[test]
+    fn a_short_number_has_at_most_so_many_digits(rt: HostRuntime) {
+        for (text, number) in [
+            ("9999999999999999999", Some(9999999999999999999)),
+            ("00000000000000000001", None),
+        ] {
+            assert_eq!(rt; short_decimal(text.as_bytes(), 19), number, "{text}");
+        }
+    }
+
+    #[test]
+    fn a_minus_sign_may_stand_before_the_digits(rt: HostRuntime) {
+        for (text, number) in [
+            ("-0", Some(0)),
+            ("-12", Some(-12)),
+            ("12", Some(12)),
+            ("-", None),
+            ("--1", None),
+            ("-999999999999999999", Some(-999999999999999999)),
+            ("-1000000000000000000", None),
+        ] {
+            assert_eq!(rt; signed_decimal(text.as_bytes(), 18), number, "{text}");
+        }
+    }
 }

@@ -97,3 +97,24 @@ impl<T: Drop> Items<T> {
         Ok(())
     }
 }
+
+#[cfg(test)]
+mod tests {
+    use super::*;
+    use std::test::Fail;
+
+    #[test]
+    fn a_list_grows_and_swaps(rt: HostRuntime) -> Result<(), Fail> {
+        let mut list = Items::<u8>::new(rt.alloc());
+        assert!(rt; list.is_empty());
+        assert_eq!(rt; list.push(4), Ok(()));
+        assert_eq!(rt; list.push(5), Ok(()));
+        assert_eq!(rt; list.len(), 2);
+        assert_eq!(rt; list.swap(1, 9), 5);
+        assert_eq!(rt; *list.at(1), 9);
+        assert_eq!(rt; list.as_slice(), [4, 9].as_slice());
+        let back = Items::from_vec(list.into_vec());
+        assert_eq!(rt; *back.at(0), 4);
+        Ok(())
+    }
+}

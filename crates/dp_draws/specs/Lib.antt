@@ -1,0 +1,4 @@
+pub mod Numbers
+pub mod SourceLaws
+pub mod Sources
+pub mod Taking

@@ -1,0 +1,36 @@
+-- One cell of truncated geometric noise, whose numbers lo, hi, low and high are the least and the greatest answer and
+-- the two numbers of the ratio low / high.
+use Rattle.std.specs.Prelude.{ℕ, ◌+◌, ◌-◌, ℤ, pos, neg_ℤ, ◌+ℤ◌, ◌-ℤ◌, nat_abs, List, [], ◌∷◌, replicate, if◌then◌else◌, nat_lt}
+use Rattle.std.specs.Int.{int_min, int_max}
+use Rattle.std.specs.List.{prefix_len}
+
+-- how many answers there are beside the least one
+abbrev pub width : ℤ → ℤ → ℕ
+width lo hi = nat_abs (hi -ℤ lo)
+
+-- one first draw below high + low, then as many run draws below high as the width says
+abbrev pub cell_shape : ℤ → ℤ → ℕ → ℕ → List ℕ
+cell_shape lo hi low high = (high + low) ∷ replicate (width lo hi) high
+
+-- how many run draws stand before the first that is not below low
+abbrev pub leading_run : ℕ → List ℕ → ℕ
+leading_run low run = prefix_len (λ draw. nat_lt draw low) run
+
+-- no noise for a first draw below high - low; else one more than the leading run, up for one below high, else down
+abbrev pub noise : ℕ → ℕ → ℕ → List ℕ → ℤ
+noise low high first run = if nat_lt first (high - low) then pos 0
+    else if nat_lt first high then pos (1 + leading_run low run)
+    else neg_ℤ (pos (1 + leading_run low run))
+
+-- the number of the range lo to hi that is nearest to z
+abbrev pub clamp : ℤ → ℤ → ℤ → ℤ
+clamp lo hi z = int_min (int_max z lo) hi
+
+-- the answer on a value, from the first draw and the run draws: the clamped value with noise, clamped
+abbrev pub cell_answer : ℤ → ℤ → ℕ → ℕ → ℤ → ℕ → List ℕ → ℤ
+cell_answer lo hi low high v first run = clamp lo hi (clamp lo hi v +ℤ noise low high first run)
+
+-- the answer on a value, from a draw list of the shape (which is not empty)
+abbrev pub cell_out : ℤ → ℤ → ℕ → ℕ → ℤ → List ℕ → ℤ
+cell_out lo hi low high v [] = clamp lo hi v
+cell_out lo hi low high v (first ∷ run) = cell_answer lo hi low high v first run
