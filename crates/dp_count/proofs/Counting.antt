@@ -1,7 +1,10 @@
 -- Sums over the numbers below a bound, and the number of draw lists that meet a test.
-use Rattle.std.proofs.Common.{◌≡◌, ℕ, zero, suc, ◌+◌, ◌-◌, ◌*◌, ◌^◌, ◌≤◌, ◌<◌, Bool, true, false, cond, ◌&&◌, ◌||◌, List, [], ◌∷◌, ◌++◌, length, take, drop, get_or, refl, sym, ◌∙◌, ap, min, arith, ltb, leb}
-use Rattle.std.proofs.Math.Nat.{add-suc, add-zero, suc-mul, mul_assoc, mul_comm, mul_left_comm}
+use Rattle.std.proofs.Common.{◌≡◌, ℕ, zero, suc, ◌+◌, ◌-◌, ◌*◌, ◌≤◌, ◌<◌, Bool, true, false, cond, ◌&&◌, ◌||◌, List, [], ◌∷◌, ◌++◌, refl, sym, ◌∙◌, ap, min, arith, ltb, leb}
+use Rattle.std.proofs.Math.Nat.{add-suc, add-zero, suc-mul, mul_comm}
 use Rattle.std.proofs.lemmas.Bool.Decides.{nat_tests}
+use Rattle.std.specs.List.{list_any, sum_by}
+use Rattle.std.proofs.lemmas.List.Sums.{sum_by-cons}
+use Rattle.dp_count.specs.CountingLaws.{AreApart}
 use Rattle.dp_count.specs.DrawLists.{sum_below, count, IsDrawList}
 use Rattle.dp_count.specs.Ratios.{product}
 
@@ -95,7 +98,7 @@ unfolding count IsDrawList
 count-append [] back both one other h = append_none (one []) back both other (λ e f. h [] e tt f)
 count-append (bound ∷ front) back both one other h =
     sum_below-same bound _ (λ x. count front (λ d. one (x ∷ d)) * count back other)
-        (λ x b. count-append front back (λ d. both (x ∷ d)) (λ d. one (x ∷ d)) other (λ d e f g. h (x ∷ d) e (b, f) g))
+    (λ x b. count-append front back (λ d. both (x ∷ d)) (λ d. one (x ∷ d)) other (λ d e f g. h (x ∷ d) e (b, f) g))
     ∙ sum_below-mul bound (count back other) (λ x. count front (λ d. one (x ∷ d)))
 
 -- The block law.
@@ -108,7 +111,7 @@ count-block [] back bound test rest h =
     ∙ sum_below-const bound (count back rest)
 count-block (first ∷ front) back bound test rest h =
     sum_below-same first _ (λ y. count (front ++ back) (λ d. rest (y ∷ d)) * bound)
-        (λ y b. count-block front back bound (λ d. test (y ∷ d)) (λ d. rest (y ∷ d)) (λ d e x f g i. h (y ∷ d) e x (b, f) g i) ∙ mul_comm bound _)
+    (λ y b. count-block front back bound (λ d. test (y ∷ d)) (λ d. rest (y ∷ d)) (λ d e x f g i. h (y ∷ d) e x (b, f) g i) ∙ mul_comm bound _)
     ∙ sum_below-mul first bound (λ y. count (front ++ back) (λ d. rest (y ∷ d)))
     ∙ mul_comm _ bound
 
@@ -127,3 +130,13 @@ unfolding count
 count-interval m a b test h k t =
     sum_below-same m _ (λ x. cond (leb a x && ltb x b) 1 0) (λ x i. ap (λ c. cond {A = ℕ} c 1 0) (t x i))
     ∙ sum_below-interval m a b h ∙ omega arith
+
+-- The partition law.
+pub count-partition : {R : Type 0} (same : R → R → Bool) (shape : List ℕ) (out : List ℕ → R) (wanted : List R) → AreApart same wanted →
+    count shape (λ d. list_any (same (out d)) wanted) ≡ sum_by (λ reply. count shape (λ d. same (out d) reply)) wanted
+unfolding AreApart
+count-partition same shape out [] h = count-false shape
+count-partition same shape out (reply ∷ wanted) h =
+    count-either shape (λ d. same (out d) reply) (λ d. list_any (same (out d)) wanted) (λ d _. h.0 (out d))
+    ∙ ap (λ n. count shape (λ d. same (out d) reply) + n) (count-partition same shape out wanted h.1)
+    ∙ sym (sum_by-cons (λ r. count shape (λ d. same (out d) r)) reply wanted)

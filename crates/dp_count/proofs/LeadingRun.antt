@@ -1,6 +1,6 @@
 -- Draw lists by how many of their first draws are below a limit. The bound of a draw is written p + r.
-use Rattle.std.proofs.Common.{◌≡◌, ℕ, zero, suc, ◌+◌, ◌-◌, ◌*◌, ◌^◌, ◌≤◌, ◌<◌, Bool, true, false, cond, List, [], ◌∷◌, replicate, refl, sym, ◌∙◌, ap, arith, ltb, leb, eqb, subst}
-use Rattle.std.proofs.Math.Nat.{add-suc, suc-add, pow-zero, pow-suc}
+use Rattle.std.proofs.Common.{◌≡◌, ℕ, zero, suc, ◌+◌, ◌-◌, ◌*◌, ◌^◌, ◌≤◌, ◌<◌, Bool, true, false, cond, List, ◌∷◌, replicate, sym, ◌∙◌, ap, arith, ltb, leb, eqb, subst}
+use Rattle.std.proofs.Math.Nat.{pow-zero, pow-suc}
 use Rattle.std.proofs.lemmas.Bool.Decides.{nat_tests}
 use Rattle.dp_count.specs.DrawLists.{sum_below, count}
 use Rattle.dp_count.specs.CountingLaws.{leading_run}
@@ -18,9 +18,9 @@ pub count-leading_run : (p r : ℕ) (shape : List ℕ) (t : ℕ → Bool) →
 unfolding count
 count-leading_run p r shape t =
     let low : sum_below p (λ x. count shape (λ d. t (leading_run p (x ∷ d)))) ≡ p * count shape (λ d. t (1 + leading_run p d))
-        = sum_below-same p _ (λ _. count shape (λ d. t (1 + leading_run p d))) (λ x b. count-same shape _ _ (λ d _. ap t (below_here p x _ _ b))) ∙ sum_below-const p _ in
+    = sum_below-same p _ (λ _. count shape (λ d. t (1 + leading_run p d))) (λ x b. count-same shape _ _ (λ d _. ap t (below_here p x _ _ b))) ∙ sum_below-const p _ in
     let high : sum_below r (λ x. count shape (λ d. t (leading_run p ((p + x) ∷ d)))) ≡ r * count shape (λ _. t 0)
-        = sum_below-same r _ (λ _. count shape (λ _. t 0)) (λ x b. count-same shape _ _ (λ d _. ap t (not_below p x _ _))) ∙ sum_below-const r _ in
+    = sum_below-same r _ (λ _. count shape (λ _. t 0)) (λ x b. count-same shape _ _ (λ d _. ap t (not_below p x _ _))) ∙ sum_below-const r _ in
     sum_below-split p r (λ x. count shape (λ d. t (leading_run p (x ∷ d)))) ∙ omega arith
 
 -- every list
@@ -41,9 +41,9 @@ count-long_run (suc g) zero h p r e = absurd (omega arith)
 count-long_run (suc g) (suc n) h p r e =
     let ih = count-long_run g n h p r (omega arith) in
     let on : count (replicate n (p + r)) (λ d. leb (suc g) (1 + leading_run p d)) ≡ p ^ g * (p + r) ^ h
-        = count-same (replicate n (p + r)) _ (λ d. leb g (leading_run p d)) (λ d _. leb_next g (leading_run p d)) ∙ ih in
+    = count-same (replicate n (p + r)) _ (λ d. leb g (leading_run p d)) (λ d _. leb_next g (leading_run p d)) ∙ ih in
     let off : count (replicate n (p + r)) (λ _. leb (suc g) 0) ≡ 0
-        = count-same (replicate n (p + r)) _ (λ _. false) (λ d _. grind (arith, nat_tests)) ∙ count-false (replicate n (p + r)) in
+    = count-same (replicate n (p + r)) _ (λ _. false) (λ d _. grind (arith, nat_tests)) ∙ count-false (replicate n (p + r)) in
     count-leading_run p r (replicate n (p + r)) (λ k. leb (suc g) k) ∙ rw (on, off, pow-suc) (omega arith)
 
 eqb_next : (g k : ℕ) → eqb (1 + k) (suc g) ≡ eqb k g
@@ -54,16 +54,16 @@ pub count-exact_run : (g n j p r : ℕ) → n ≡ g + suc j → count (replicate
 count-exact_run g zero j p r e = absurd (omega arith)
 count-exact_run zero (suc n) j p r e =
     let on : count (replicate n (p + r)) (λ d. eqb (1 + leading_run p d) 0) ≡ 0
-        = count-same (replicate n (p + r)) _ (λ _. false) (λ d _. grind (arith, nat_tests)) ∙ count-false (replicate n (p + r)) in
+    = count-same (replicate n (p + r)) _ (λ _. false) (λ d _. grind (arith, nat_tests)) ∙ count-false (replicate n (p + r)) in
     let off : count (replicate n (p + r)) (λ _. eqb 0 0) ≡ (p + r) ^ n = count-replicate n (p + r) in
     let same : n ≡ j = omega arith in
     count-leading_run p r (replicate n (p + r)) (λ k. eqb k 0) ∙ rw (on, off, pow-zero, same) (omega arith)
 count-exact_run (suc g) (suc n) j p r e =
     let ih = count-exact_run g n j p r (omega arith) in
     let on : count (replicate n (p + r)) (λ d. eqb (1 + leading_run p d) (suc g)) ≡ p ^ g * r * (p + r) ^ j
-        = count-same (replicate n (p + r)) _ (λ d. eqb (leading_run p d) g) (λ d _. eqb_next g (leading_run p d)) ∙ ih in
+    = count-same (replicate n (p + r)) _ (λ d. eqb (leading_run p d) g) (λ d _. eqb_next g (leading_run p d)) ∙ ih in
     let off : count (replicate n (p + r)) (λ _. eqb 0 (suc g)) ≡ 0
-        = count-same (replicate n (p + r)) _ (λ _. false) (λ d _. grind (arith, nat_tests)) ∙ count-false (replicate n (p + r)) in
+    = count-same (replicate n (p + r)) _ (λ _. false) (λ d _. grind (arith, nat_tests)) ∙ count-false (replicate n (p + r)) in
     count-leading_run p r (replicate n (p + r)) (λ k. eqb k (suc g)) ∙ rw (on, off, pow-suc) (omega arith)
 
 -- all n draws
@@ -73,9 +73,9 @@ count-whole_run zero p r = sym (pow-zero p)
 count-whole_run (suc n) p r =
     let ih = count-whole_run n p r in
     let on : count (replicate n (p + r)) (λ d. eqb (1 + leading_run p d) (suc n)) ≡ p ^ n
-        = count-same (replicate n (p + r)) _ (λ d. eqb (leading_run p d) n) (λ d _. eqb_next n (leading_run p d)) ∙ ih in
+    = count-same (replicate n (p + r)) _ (λ d. eqb (leading_run p d) n) (λ d _. eqb_next n (leading_run p d)) ∙ ih in
     let off : count (replicate n (p + r)) (λ _. eqb 0 (suc n)) ≡ 0
-        = count-same (replicate n (p + r)) _ (λ _. false) (λ d _. grind (arith, nat_tests)) ∙ count-false (replicate n (p + r)) in
+    = count-same (replicate n (p + r)) _ (λ _. false) (λ d _. grind (arith, nat_tests)) ∙ count-false (replicate n (p + r)) in
     count-leading_run p r (replicate n (p + r)) (λ k. eqb k (suc n)) ∙ rw (on, off, pow-suc) (omega arith)
 
 -- The run laws, with the bound as one number.

@@ -1,9 +1,9 @@
 -- How pairs that keep a ratio combine.
-use Rattle.std.proofs.Common.{◌≡◌, ℕ, zero, suc, ◌+◌, ◌-◌, ◌*◌, ◌^◌, ◌≤◌, List, [], ◌∷◌, refl, sym, ◌∙◌, ap, arith}
+use Rattle.std.proofs.Common.{◌≡◌, ℕ, zero, suc, ◌+◌, ◌-◌, ◌*◌, ◌^◌, ◌≤◌, List, [], ◌∷◌, length, replicate, refl, ◌∙◌, ap, arith}
 use Rattle.std.specs.List.{sum}
 use Rattle.std.proofs.lemmas.List.Sums.{sum_by-cons}
 use Rattle.std.proofs.lemmas.Nat.{pow-add}
-use Rattle.std.proofs.Math.Nat.{mul-le-mul, mul-le-mul_left, mul-le-mul_right, mul-mul-mul_comm, mul_assoc, mul_comm, mul_right_comm, pow-zero, pow-suc, pow-le-pow_left}
+use Rattle.std.proofs.Math.Nat.{mul-le-mul, mul-le-mul_left, mul-le-mul_right, mul-mul-mul_comm, pow-zero, pow-suc, pow-le-pow_left}
 use Rattle.dp_count.specs.Ratios.{KeepsRatio, KeepRatios, product}
 
 -- a number and itself
@@ -61,3 +61,12 @@ ratio-list p q [] [] (y ∷ ys) h = absurd h
 ratio-list p q [] (x ∷ xs) ys h = absurd h
 ratio-list p q (k ∷ ks) [] ys h = absurd h
 ratio-list p q (k ∷ ks) (x ∷ xs) [] h = absurd h
+
+-- sums of lists
+pub ratio-sum : (p q k : ℕ) (xs ys : List ℕ) → KeepRatios p q (replicate (length xs) k) xs ys → KeepsRatio p q k (sum xs) (sum ys)
+unfolding KeepRatios
+ratio-sum p q k [] [] h = omega arith
+ratio-sum p q k [] (y ∷ ys) h = absurd h
+ratio-sum p q k (x ∷ xs) [] h = absurd h
+ratio-sum p q k (x ∷ xs) (y ∷ ys) h =
+    rw (sum_by-cons (λ n. n) x xs, sum_by-cons (λ n. n) y ys) (ratio-add p q k x y (sum xs) (sum ys) h.0 (ratio-sum p q k xs ys h.1))

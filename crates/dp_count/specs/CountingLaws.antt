@@ -1,6 +1,6 @@
 -- The laws of the number of draw lists that meet a test.
 use Rattle.std.specs.Prelude.{◌≡◌, ℕ, ◌+◌, ◌-◌, ◌*◌, ◌^◌, ◌<◌, ◌≤◌, ◌==◌, ◌&&◌, ◌||◌, Bool, true, false, List, [], ◌∷◌, ◌++◌, length, take, drop, replicate, nat_lt, nat_le, slice_index}
-use Rattle.std.specs.List.{prefix_len, sum}
+use Rattle.std.specs.List.{prefix_len, sum, sum_by, list_any}
 use lib.Pointwise.{pointwise}
 use Rattle.dp_count.specs.DrawLists.{count, IsDrawList}
 use Rattle.dp_count.specs.Ratios.{KeepsRatio, KeepRatios, product}
@@ -56,6 +56,16 @@ EitherLaw = (shape : List ℕ) (one other : List ℕ → Bool)
 abbrev pub WholeLaw : Type 0
 WholeLaw = (shape : List ℕ) → count shape (λ _. true) ≡ product shape
 
+-- no value is the same as two of a list
+unfoldable pub AreApart : {R : Type 0} → (R → R → Bool) → List R → Type 0
+AreApart same [] = Unit {0}
+AreApart same (x ∷ xs) = ((r : _) → (same r x && list_any (same r) xs) ≡ false) × AreApart same xs
+
+-- draws whose reply is one of several, none the same as another: the numbers of the single replies add
+abbrev pub PartitionLaw : Type 0 → Type 0
+PartitionLaw R = (same : R → R → Bool) (shape : List ℕ) (out : List ℕ → R) (wanted : List R) → AreApart same wanted
+    → count shape (λ draws. list_any (same (out draws)) wanted) ≡ sum_by (λ reply. count shape (λ draws. same (out draws) reply)) wanted
+
 -- the wanted replies of all slots: the product of the slots' numbers
 abbrev pub SlotsLaw : Type 0 → Type 0
 SlotsLaw R = (same : R → R → Bool) (slots : List (Slot R)) (wanted : List R)
@@ -72,3 +82,7 @@ RatioGrowthLaw = (p q j k x y : ℕ) → p ≤ q → j ≤ k → KeepsRatio p q 
 -- lists of pairs that keep a ratio: their products keep it at the sum of the exponents
 abbrev pub RatioListLaw : Type 0
 RatioListLaw = (p q : ℕ) (ks xs ys : List ℕ) → KeepRatios p q ks xs ys → KeepsRatio p q (sum ks) (product xs) (product ys)
+
+-- lists of pairs that keep a ratio at one exponent: their sums keep it too
+abbrev pub RatioSumLaw : Type 0
+RatioSumLaw = (p q k : ℕ) (xs ys : List ℕ) → KeepRatios p q (replicate (length xs) k) xs ys → KeepsRatio p q k (sum xs) (sum ys)

@@ -1,5 +1,5 @@
 //! The laws of the number of draw lists that meet a test. Each is the contract of a function that does nothing.
-ghost use Rattle.dp_count.specs.CountingLaws.{ProductLaw, CutLaw, BlockLaw, RunLaw, WholeRunLaw, LongRunLaw, IntervalLaw, EitherLaw, WholeLaw, SlotsLaw, RatioProductLaw, RatioGrowthLaw, RatioListLaw};
+ghost use Rattle.dp_count.specs.CountingLaws.{ProductLaw, CutLaw, BlockLaw, RunLaw, WholeRunLaw, LongRunLaw, IntervalLaw, EitherLaw, WholeLaw, SlotsLaw, RatioProductLaw, RatioGrowthLaw, RatioListLaw, RatioSumLaw, PartitionLaw};
 
 /// The numbers of draw lists of joined shapes multiply.
 pub fn product_law()
@@ -30,6 +30,11 @@ pub fn sum_law()
     ensures whole { WholeLaw }
 {}
 
+/// The numbers of several replies, none the same as another, add.
+pub fn partition_law<R>()
+    ensures { PartitionLaw R }
+{}
+
 /// Of several slots side by side, the number of draw lists with the wanted replies is the product of the slots' numbers.
 pub fn slots_law<R>()
     ensures { SlotsLaw R }
@@ -40,4 +45,22 @@ pub fn ratio_law()
     ensures product { RatioProductLaw }
     ensures growth { RatioGrowthLaw }
     ensures list { RatioListLaw }
+    ensures sum { RatioSumLaw }
 {}
+
+#[cfg(test)]
+mod tests {
+    use super::*;
+
+    #[test]
+    fn the_laws_can_be_cited(_rt: HostRuntime) {
+        product_law();
+        block_law();
+        run_law();
+        interval_law();
+        sum_law();
+        partition_law::<u64>();
+        slots_law::<u64>();
+        ratio_law();
+    }
+}

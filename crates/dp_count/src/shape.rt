@@ -118,7 +118,13 @@ mod tests {
         shape.join(&Shape::one(rt.alloc(), 4_611_686_018_427_387_904)?)?;
         assert!(rt; !shape.is_empty());
         assert_eq!(rt; shape.len(), 5);
-        for (k, bound) in [(0, 3), (1, 2), (2, 2), (3, 2), (4, 4_611_686_018_427_387_904)] {
+        for (k, bound) in [
+            (0, 3),
+            (1, 2),
+            (2, 2),
+            (3, 2),
+            (4, 4_611_686_018_427_387_904),
+        ] {
             assert!(rt; k < shape.len());
             assert_eq!(rt; shape.at(k), bound);
         }

@@ -1,4 +1,4 @@
-use Rattle.dp_count.proofs.Ratios.{ratio-both, ratio-more, ratio-list}
+use Rattle.dp_count.proofs.Ratios.{ratio-both, ratio-more, ratio-list, ratio-sum}
 use Rattle.dp_count.proofs.laws.ratio_law.Goals as goal
 
 pub returns-clause-product : goal.returns-clause-product
@@ -9,3 +9,6 @@ returns-clause-growth c = ratio-more
 
 pub returns-clause-list : goal.returns-clause-list
 returns-clause-list c = ratio-list
+
+pub returns-clause-sum : goal.returns-clause-sum
+returns-clause-sum c = ratio-sum
