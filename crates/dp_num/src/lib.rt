@@ -1,13 +1,13 @@
-// A library with one function.
+//! Numbers of a pipeline: the ratio and its powers, units of loss with their greatest number, divisions that round up
+//! and down, and a counter of steps.
 #![tactic(auto)]
 
-ghost use Rattle.std.specs.Prelude.{◌≡◌};
-ghost use Rattle.dp_num.specs.Echo.{echo_of};
+mod faults;
+mod ratio;
+mod steps;
+mod units;
 
-// The `ensures` clause is the contract: what `echo` returns is `echo_of` of its argument, a definition
-// in `specs/Echo.antt`, which a caller's clause can cite too.
-pub fn echo(x: usize) -> usize
-    ensures { result ≡ echo_of x }
-{
-    x
-}
+pub use faults::{Bound, Past};
+pub use ratio::Ratio;
+pub use steps::Steps;
+pub use units::{add_units, ceil_div, floor_div, mul_units};
