@@ -1,5 +1,5 @@
 -- The numbers of a file of draws.
-use Rattle.std.specs.Prelude.{ℕ, ◌==◌, ◌||◌, ◌<◌, Bool, not, List, [], ◌∷◌, Option, Some, None, filter, length, nat_lt}
+use Rattle.std.specs.Prelude.{ℕ, ◌==◌, ◌||◌, Bool, List, [], ◌∷◌, Option, Some, None, filter, length, nat_lt}
 use Rattle.std.specs.List.{slice_split}
 use Rattle.dp_count.specs.Digits.{short_decimal}
 

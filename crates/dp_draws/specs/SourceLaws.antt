@@ -1,8 +1,7 @@
 -- The draws of each source are below the bound.
-use Rattle.std.specs.Prelude.{ℕ, ◌≡◌, ◌<◌, Bool, true, false, List, [], ◌∷◌, Some, nat_lt, if◌then◌else◌, None}
+use Rattle.std.specs.Prelude.{ℕ, ◌≡◌, ◌<◌, List, [], ◌∷◌, Some}
 use Rattle.std.proofs.Common.{arith}
 use Rattle.std.proofs.lemmas.Bool.Decides.{nat_tests}
-use Rattle.dp_draws.specs.Taking.{Turn}
 use Rattle.dp_draws.specs.Sources.{replay_step, no_step}
 
 

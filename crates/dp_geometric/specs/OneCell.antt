@@ -17,20 +17,16 @@ abbrev pub leading_run : ℕ → List ℕ → ℕ
 leading_run low run = prefix_len (λ draw. nat_lt draw low) run
 
 -- no noise for a first draw below high - low; else one more than the leading run, up for one below high, else down
-abbrev pub noise : ℕ → ℕ → ℕ → List ℕ → ℤ
+abbrev pub noise : ℕ → ℕ → ℕ → ℕ → ℤ
 noise low high first run = if nat_lt first (high - low) then pos 0
-    else if nat_lt first high then pos (1 + leading_run low run)
-    else neg_ℤ (pos (1 + leading_run low run))
+    else if nat_lt first high then pos (1 + run)
+    else neg_ℤ (pos (1 + run))
 
--- the number of the range lo to hi that is nearest to z
+-- the number from lo to hi that is nearest to z
 abbrev pub clamp : ℤ → ℤ → ℤ → ℤ
 clamp lo hi z = int_min (int_max z lo) hi
 
--- the answer on a value, from the first draw and the run draws: the clamped value with noise, clamped
-abbrev pub cell_answer : ℤ → ℤ → ℕ → ℕ → ℤ → ℕ → List ℕ → ℤ
-cell_answer lo hi low high v first run = clamp lo hi (clamp lo hi v +ℤ noise low high first run)
-
--- the answer on a value, from a draw list of the shape (which is not empty)
-abbrev pub cell_out : ℤ → ℤ → ℕ → ℕ → ℤ → List ℕ → ℤ
+-- the answer on the value v, from a draw list of the shape: the clamped value with its noise, clamped
+unfoldable pub cell_out : ℤ → ℤ → ℕ → ℕ → ℤ → List ℕ → ℤ
 cell_out lo hi low high v [] = clamp lo hi v
-cell_out lo hi low high v (first ∷ run) = cell_answer lo hi low high v first run
+cell_out lo hi low high v (first ∷ run) = clamp lo hi (clamp lo hi v +ℤ noise low high first (leading_run low run))

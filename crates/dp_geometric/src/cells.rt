@@ -1,13 +1,16 @@
-ghost use Rattle.std.specs.Prelude.{ℤ, neg_ℤ, pos, ◌≡◌, ◌^◌, ◌+◌, ◌<◌, ◌≤◌, ◌≤ℤ◌, ◌-ℤ◌, result_ok, option_map};
+ghost use Rattle.std.specs.Prelude.{ℤ, neg_ℤ, pos, ◌≡◌, ◌^◌, ◌+◌, ◌<◌, ◌≤◌, ◌≤ℤ◌, ◌-ℤ◌, ◌+ℤ◌};
+ghost use Rattle.std.specs.Option.{option_map};
+ghost use Rattle.std.specs.Result.{result_ok};
 ghost use Rattle.dp_count.specs.Faults.{HasCause};
 ghost use Rattle.dp_draws.specs.Taking.{take_draws};
-ghost use Rattle.dp_geometric.specs.OneCell.{cell_shape, cell_out};
+ghost use Rattle.dp_geometric.specs.OneCell.{cell_shape, cell_out, noise, clamp, width};
 
+use crate::runs::leading_run;
 use dp_count::Failed;
 use dp_draws::Draws;
 
-/// One cell of truncated geometric noise with the ratio `low` / `high`: its answers are the whole numbers from `lo`
-/// to `hi`.
+/// One cell of truncated geometric noise: its answers are the whole numbers from `lo` to `hi`, and with each step of
+/// distance from the value an answer is rarer by the factor `low` / `high`.
 #[derive(Clone, Copy, Debug, PartialEq, Eq)]
 pub struct Cell {
     /// The least answer.
@@ -21,7 +24,7 @@ pub struct Cell {
     pub ghost least: { neg_ℤ (pos (2 ^ 61)) ≤ℤ lo },
     pub ghost ordered: { lo ≤ℤ hi },
     pub ghost greatest: { hi ≤ℤ pos (2 ^ 61) },
-    pub ghost narrow: { hi -ℤ lo ≤ℤ pos 65535 },
+    pub ghost narrow: { (hi -ℤ lo) ≤ℤ pos 65535 },
     pub ghost positive: { 1 ≤ low },
     pub ghost below_one: { low < high },
     pub ghost bounded: { low + high ≤ 2 ^ 62 },
@@ -33,7 +36,7 @@ impl Cell {
         requires least { neg_ℤ (pos (2 ^ 61)) ≤ℤ lo }
         requires ordered { lo ≤ℤ hi }
         requires greatest { hi ≤ℤ pos (2 ^ 61) }
-        requires narrow { hi -ℤ lo ≤ℤ pos 65535 }
+        requires narrow { (hi -ℤ lo) ≤ℤ pos 65535 }
         requires positive { 1 ≤ low }
         requires below_one { low < high }
         requires bounded { low + high ≤ 2 ^ 62 }
@@ -52,7 +55,50 @@ impl Cell {
         ensures last { D.state draws.new ≡ (take_draws D.step (D.state draws.old) (cell_shape self.now.lo self.now.hi self.now.low self.now.high)).last }
         ensures cause { HasCause (D.faults draws.old) (D.faults draws.new) result }
     {
-        draws.below(self.low + self.high)?;
-        Ok(v)
+        let first = draws.below(self.high + self.low)?;
+        let run = leading_run(draws, self.width(), self.low, self.high)?;
+        Ok(self.settle(v, self.noise(first, run)))
+    }
+
+    /// How many run draws one answer takes.
+    fn width(&self) -> u64
+        ensures value { result ≡ width self.now.lo self.now.hi }
+        ensures few { result ≤ 65535 }
+    {
+        (self.hi - self.lo) as u64
+    }
+
+    /// The noise of a first draw and a leading run.
+    fn noise(&self, first: u64, run: u64) -> i64
+        requires { run ≤ 65535 }
+        ensures value { result ≡ noise self.now.low self.now.high first run }
+        ensures least { neg_ℤ (pos 65536) ≤ℤ result }
+        ensures greatest { result ≤ℤ pos 65536 }
+    {
+        if first < self.high - self.low {
+            return 0;
+        }
+        if first < self.high {
+            return 1 + run as i64;
+        }
+        -(1 + run as i64)
+    }
+
+    /// The answer on `v` with this noise.
+    fn settle(&self, v: i64, noise: i64) -> i64
+        requires least { neg_ℤ (pos 65536) ≤ℤ noise }
+        requires greatest { noise ≤ℤ pos 65536 }
+        ensures { result ≡ clamp self.now.lo self.now.hi (clamp self.now.lo self.now.hi v +ℤ noise) }
+    {
+        self.nearest(self.nearest(v) + noise)
+    }
+
+    /// The answer that is nearest to `z`.
+    fn nearest(&self, z: i64) -> i64
+        ensures value { result ≡ clamp self.now.lo self.now.hi z }
+        ensures least { self.now.lo ≤ℤ result }
+        ensures greatest { result ≤ℤ self.now.hi }
+    {
+        z.max(self.lo).min(self.hi)
     }
 }

@@ -1,7 +1,8 @@
 //! Truncated geometric noise on a whole number: the geometric mechanism of Ghosh, Roughgarden and Sundararajan (2009)
-//! for a finite range, with whole draws alone.
+//! over a finite range, from whole draws alone.
 #![tactic(auto)]
 
 mod cells;
+mod runs;
 
 pub use cells::Cell;

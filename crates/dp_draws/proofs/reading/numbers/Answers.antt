@@ -1,4 +1,4 @@
-use Rattle.std.proofs.Common.{rules, tests, ◌≡◌, ◌<◌, ◌+◌, ℕ, List, [], ◌∷◌, ◌++◌, length, get_or, drop, Option, Some, None, refl, sym, ap, ◌∙◌, arith, nat_lt, append_assoc}
+use Rattle.std.proofs.Common.{rules, tests, ◌≡◌, ◌<◌, ◌+◌, ℕ, List, [], ◌∷◌, ◌++◌, length, get_or, drop, Some, None, refl, sym, ap, ◌∙◌, arith, nat_lt, append_assoc}
 use Rattle.std.proofs.lemmas.Iterator.Splits.{YieldsList-from_slice_split}
 use Rattle.std.proofs.lemmas.Iterator.Consumers.{YieldsList-from_filter, YieldsList-at, YieldsList-turn, YieldsList-end}
 use Rattle.std.proofs.lemmas.List.{at_drop_more, at_drop_all, length_push, append-nil}
@@ -31,12 +31,12 @@ ends ts k numbers all h kept =
 pub returns-in_default : goal.returns-in_default
 returns-in_default c =
     let turn = YieldsList-turn (YieldsList-at c.into_iter-token-iterator.ensures.into_iter_gives (YieldsList-from_filter _ (λ token. nat_lt 0 (length token)) (YieldsList-at c.filter-tokens.ensures.source (YieldsList-from_slice_split _ is_blank c.args.bytes.now c.split.ensures.rest c.split.ensures.done c.split.ensures.closure (λ x b q k. search (rules, tests)))) c.filter-tokens.ensures.closure (λ x b q k. search (rules, tests)))) c.loop-token.yielded _ c.loop-token.yielded_by _ _ c.in-Some.token c.in-Some.is c.next.ensures.steps in
-    stops (tokens c.args.bytes.now) (length c.loop-token.yielded) c.in-Some.token.now _ _ turn (sym c.in_default.is ∙ c.short_decimal.ensures) c.loop-token.invariant
+    stops (tokens c.args.bytes.now) (length c.loop-token.yielded) c.in-Some.token.now _ _ turn (sym c.in_default.is ∙ c.short_decimal.ensures.number) c.loop-token.invariant
 
 pub loop-token-preserved : goal.loop-token-preserved
 loop-token-preserved c =
     let turn = YieldsList-turn (YieldsList-at c.into_iter-token-iterator.ensures.into_iter_gives (YieldsList-from_filter _ (λ token. nat_lt 0 (length token)) (YieldsList-at c.filter-tokens.ensures.source (YieldsList-from_slice_split _ is_blank c.args.bytes.now c.split.ensures.rest c.split.ensures.done c.split.ensures.closure (λ x b q k. search (rules, tests)))) c.filter-tokens.ensures.closure (λ x b q k. search (rules, tests)))) c.loop-token.yielded _ c.loop-token.yielded_by _ _ c.in-Some.token c.in-Some.is c.next.ensures.steps in
-    rw (c.in_ok-push.ensures.items, length_push c.loop-token.yielded c.in-Some.token) (goes (tokens c.args.bytes.now) (length c.loop-token.yielded) c.in-Some.token.now c.in-Some-short_decimal.number _ _ turn (sym c.in-Some-short_decimal.is ∙ c.short_decimal.ensures) c.loop-token.invariant)
+    rw (c.in_ok-push.ensures.items, length_push c.loop-token.yielded c.in-Some.token) (goes (tokens c.args.bytes.now) (length c.loop-token.yielded) c.in-Some.token.now c.in-Some-short_decimal.number _ _ turn (sym c.in-Some-short_decimal.is ∙ c.short_decimal.ensures.number) c.loop-token.invariant)
 
 pub returns : goal.returns
 returns c =

@@ -1,0 +1,3 @@
+mod LeadingRun
+mod Settling
+mod Stepping
