@@ -1,5 +1,6 @@
 pub mod Counting
 pub mod LeadingRun
+pub mod Places
 pub mod Ratios
 pub mod Runs
 pub mod Slots

@@ -1,1 +1,3 @@
+pub mod CellLaw
+pub mod CellProof
 pub mod OneCell
