@@ -40,3 +40,16 @@ impl Draws for NoDraws {
 
     ghost few_faults = { λ source. source.few };
 }
+
+#[cfg(test)]
+mod tests {
+    use super::*;
+
+    #[test]
+    fn no_draw_is_given(rt: HostRuntime) {
+        let mut source = NoDraws::new();
+        assert_eq!(rt; source.below(3), Err(Failed));
+        assert_eq!(rt; source.below(1), Err(Failed));
+        assert_eq!(rt; source.failed, 2);
+    }
+}

@@ -37,7 +37,9 @@ impl Draws for Replay {
     ghost faults = { λ source. source.failed };
 
     fn below(&mut self, m: u64) -> Result<u64, Failed> {
-        if let Some(number) = self.list.get(self.place) && *number < m {
+        if let Some(number) = self.list.get(self.place)
+            && *number < m
+        {
             self.place += 1;
             return Ok(*number);
         }
@@ -48,4 +50,29 @@ impl Draws for Replay {
     ghost draw_below = { replay_below };
 
     ghost few_faults = { λ source. source.few };
+}
+
+#[cfg(test)]
+mod tests {
+    use super::*;
+    use std::test::Fail;
+
+    #[test]
+    fn a_list_is_given_in_order_and_kept_at_a_failure(rt: HostRuntime) -> Result<(), Fail> {
+        let mut source = Replay::new(vec![in rt.alloc(); 2, 9, 0]?);
+        for (m, draw) in [
+            (3, Ok(2)),
+            (9, Err(Failed)),
+            (9, Err(Failed)),
+            (10, Ok(9)),
+            (1, Ok(0)),
+            (1, Err(Failed)),
+            (4, Err(Failed)),
+        ] {
+            assert!(rt; 1 <= m && m <= 10);
+            assert_eq!(rt; source.below(m), draw, "below {m}");
+        }
+        assert_eq!(rt; source.failed, 4);
+        Ok(())
+    }
 }

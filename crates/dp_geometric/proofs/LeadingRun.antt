@@ -55,7 +55,7 @@ forward-more step start state next before now after turns turn low high run draw
       runs = sym (runs-more still run low draw (take_draws step next (replicate (turns - (turn + 1)) high)).draws) ∙ sym (ap (λ t. option_map (counted still run low) t.draws) e) ∙ f.runs;
       last = sym (ap (λ t. t.last) e) ∙ f.last;
       later = omega arith;
-      few = omega arith
+      few = omega arith;
     }
 
 -- a draw that fails

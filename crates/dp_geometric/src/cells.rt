@@ -105,3 +105,79 @@ impl Cell {
         z.max(self.lo).min(self.hi)
     }
 }
+
+#[cfg(test)]
+mod tests {
+    use super::*;
+    use dp_draws::Replay;
+    use std::alloc::{AllocError, Global};
+    use std::test::Fail;
+
+    fn source<const N: usize>(alloc: Global, draws: [u64; N]) -> Result<Replay, AllocError> {
+        Ok(Replay::new(Vec::from_array(alloc, draws)?))
+    }
+
+    #[test]
+    fn six_draw_lists_of_a_cell(rt: HostRuntime) -> Result<(), Fail> {
+        let cell = Cell::new(0, 1, 1, 2);
+        for (v, draws, answer) in [
+            (0, [0, 0], 0),
+            (0, [0, 1], 0),
+            (0, [1, 0], 1),
+            (0, [1, 1], 1),
+            (0, [2, 0], 0),
+            (0, [2, 1], 0),
+            (1, [0, 0], 1),
+            (1, [0, 1], 1),
+            (1, [1, 0], 1),
+            (1, [1, 1], 1),
+            (1, [2, 0], 0),
+            (1, [2, 1], 0),
+        ] {
+            let mut draws = source(rt.alloc(), draws)?;
+            assert_eq!(rt; cell.step(v, &mut draws), Ok(answer), "on {v}");
+        }
+        Ok(())
+    }
+
+    #[test]
+    fn noise_is_added_and_the_answer_kept_in_range(rt: HostRuntime) -> Result<(), Fail> {
+        let cell = Cell::new(0, 5, 1, 2);
+        for (v, draws, answer) in [
+            (3, [1, 0, 1, 1, 0, 0], 5),
+            (3, [2, 0, 0, 0, 0, 0], 0),
+            (3, [0, 0, 0, 0, 0, 0], 3),
+            (-7, [0, 1, 1, 1, 1, 1], 0),
+            (i64::MAX, [2, 1, 0, 0, 0, 0], 4),
+            (i64::MIN, [1, 1, 0, 0, 0, 0], 1),
+        ] {
+            let mut draws = source(rt.alloc(), draws)?;
+            assert_eq!(rt; cell.step(v, &mut draws), Ok(answer), "on {v}");
+        }
+        Ok(())
+    }
+
+    #[test]
+    fn a_range_of_one_number_has_one_answer(rt: HostRuntime) -> Result<(), Fail> {
+        let cell = Cell::new(4, 4, 1, 2);
+        for first in 0..3 {
+            let mut draws = source(rt.alloc(), [first])?;
+            assert_eq!(rt; cell.step(3, &mut draws), Ok(4), "at {first}");
+        }
+        Ok(())
+    }
+
+    #[test]
+    fn all_run_draws_are_taken_or_the_step_fails(rt: HostRuntime) -> Result<(), Fail> {
+        let cell = Cell::new(0, 5, 1, 2);
+        let mut draws = source(rt.alloc(), [1, 1, 0, 0, 0, 0, 6, 3])?;
+        assert_eq!(rt; cell.step(3, &mut draws), Ok(4));
+        assert_eq!(rt; draws.below(7), Ok(6));
+        assert_eq!(rt; cell.step(3, &mut draws), Err(Failed));
+        assert_eq!(rt; draws.below(4), Ok(3));
+        let mut few = source(rt.alloc(), [1, 0, 1])?;
+        assert_eq!(rt; cell.step(3, &mut few), Err(Failed));
+        assert_eq!(rt; few.below(2), Err(Failed));
+        Ok(())
+    }
+}

@@ -9,7 +9,12 @@ use dp_count::Failed;
 use dp_draws::Draws;
 
 /// Takes `turns` draws below `high`, and tells how many stand before the first that is not below `low`.
-pub(crate) fn leading_run<D: Draws>(draws: &mut D, turns: u64, low: u64, high: u64) -> Result<u64, Failed>
+pub(crate) fn leading_run<D: Draws>(
+    draws: &mut D,
+    turns: u64,
+    low: u64,
+    high: u64,
+) -> Result<u64, Failed>
     requires positive { 1 ≤ high }
     requires bounded { high ≤ 2 ^ 62 }
     ensures run { result_ok result ≡ option_map (leading_run low) (take_draws D.step (D.state draws.old) (replicate turns high)).draws }

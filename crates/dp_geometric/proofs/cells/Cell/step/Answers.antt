@@ -34,7 +34,7 @@ returns-clause-answer g c =
     let fits_noise : SFits w64 c.noise.result = record { sfits = c.noise.type_inv } in
     let fits_answer : SFits w64 c.settle.result = record { sfits = c.settle.type_inv } in
     run-answers _ _ _ cell.lo cell.hi c.args.v _ cell.low cell.high _ _ _ c.width.ensures.value c.in_ok-first.ensures.step c.in_ok-run.ensures.run
-        (answered cell.lo cell.hi c.args.v c.noise.result _ c.settle.result c.ranges.v fits_noise fits_answer c.noise.ensures.value c.settle.ensures)
+    (answered cell.lo cell.hi c.args.v c.noise.result _ c.settle.result c.ranges.v fits_noise fits_answer c.noise.ensures.value c.settle.ensures)
 
 pub returns-clause-last : goal.returns-clause-last
 returns-clause-last g c =
