@@ -2,8 +2,7 @@
 use Rattle.std.proofs.Common.{◌≡◌, ℕ, zero, suc, ◌+◌, ◌-◌, ◌*◌, ◌^◌, ◌≤◌, ◌<◌, Bool, true, false, cond, List, ◌∷◌, replicate, sym, ◌∙◌, ap, arith, ltb, leb, eqb, subst}
 use Rattle.std.proofs.Math.Nat.{pow-zero, pow-suc}
 use Rattle.std.proofs.lemmas.Bool.Decides.{nat_tests}
-use Rattle.dp_count.specs.DrawLists.{sum_below, count}
-use Rattle.dp_count.specs.CountingLaws.{leading_run}
+use Rattle.dp_count.specs.DrawLists.{sum_below, count, leading_run}
 use Rattle.dp_count.proofs.Counting.{sum_below-same, sum_below-const, sum_below-split, count-same, count-false}
 
 below_here : (p x : ℕ) (n m : ℕ) → x < p → cond (ltb x p) n m ≡ n

@@ -1,4 +1,5 @@
 pub mod Counting
+pub mod DrawLists
 pub mod LeadingRun
 pub mod Places
 pub mod Ratios

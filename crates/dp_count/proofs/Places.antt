@@ -1,12 +1,11 @@
 -- Places from 0 to n, a start among them, and a walk up or down that ends at the first or last place. The draws are one
 -- below r + p + p, which says whether the walk stays, goes up or goes down, and n draws below p + r, whose leading run
 -- below p is one less than its length.
-use Rattle.std.proofs.Common.{◌≡◌, ℕ, zero, suc, ◌+◌, ◌-◌, ◌*◌, ◌^◌, ◌≤◌, ◌<◌, ◌==◌, ◌||◌, Bool, true, false, cond, List, [], ◌∷◌, replicate, refl, sym, ◌∙◌, ap, min, arith, ltb, leb, eqb, subst}
-use Rattle.std.proofs.Math.Nat.{add-zero, add-suc, pow-zero, pow-suc, mul-le-mul_left, pow-le-pow_left}
+use Rattle.std.proofs.Common.{◌≡◌, ℕ, zero, suc, ◌+◌, ◌-◌, ◌*◌, ◌^◌, ◌≤◌, ◌<◌, ◌||◌, Bool, true, false, cond, List, ◌∷◌, replicate, refl, sym, ◌∙◌, ap, min, arith, leb, eqb, subst}
+use Rattle.std.proofs.Math.Nat.{pow-zero, pow-suc, mul-le-mul_left, pow-le-pow_left}
 use Rattle.std.proofs.lemmas.Nat.{pow-add}
 use Rattle.std.proofs.lemmas.Bool.Decides.{nat_tests}
-use Rattle.dp_count.specs.DrawLists.{sum_below, count}
-use Rattle.dp_count.specs.CountingLaws.{leading_run}
+use Rattle.dp_count.specs.DrawLists.{sum_below, count, leading_run}
 use Rattle.dp_count.proofs.Counting.{sum_below-same, sum_below-const, sum_below-split, count-same, count-never}
 use Rattle.dp_count.proofs.LeadingRun.{count-replicate, count-exact_run, count-long_run}
 
@@ -101,10 +100,10 @@ at_first n p r t h e =
 
 at : (n p r t : ℕ) → t ≤ n → places n p r t t ≡ share n p r t 0
 at n p r t h = elim (order t 0) [
-    Same e ↦ elim (order n 0) [ Same f ↦ at_one n p r t f e | Less g f ↦ absurd (omega arith) | More g f ↦ at_first n p r t (omega arith) e ]
+  | Same e ↦ elim (order n 0) [ Same f ↦ at_one n p r t f e | Less g f ↦ absurd (omega arith) | More g f ↦ at_first n p r t (omega arith) e ]
   | Less g e ↦ absurd (omega arith)
   | More g e ↦ elim (order t n) [ Same f ↦ at_last n p r t (omega arith) f | Less k f ↦ at_inside n p r t (omega arith) (omega arith) | More k f ↦ absurd (omega arith) ]
-  ]
+]
 
 -- a walk of exactly g + 1 steps, and one that stops at an end after g + 1 steps
 inside_share : (n g p r : ℕ) → p * (p ^ g * r * (p + r) ^ (n - suc g)) ≡ r * p ^ suc g * (p + r) ^ (n - suc g)
@@ -120,7 +119,7 @@ below_inside n p r t g b e h k =
     let z = none n q (λ _. eqb t b) (λ d. grind (arith, nat_tests)) in
     let u = none n q (λ d. eqb (up_to n t (leading_run p d)) b) (λ d. grind (arith, nat_tests)) in
     let d : count (replicate n q) (λ d. eqb (down_to t (leading_run p d)) b) ≡ p ^ g * r * (p + r) ^ (n - suc g)
-        = count-same (replicate n q) _ (λ d. eqb (leading_run p d) g) (λ d _. down_exact t g b (leading_run p d) e k) ∙ count-exact_run g n (n - suc g) p r (omega arith) in
+    = count-same (replicate n q) _ (λ d. eqb (leading_run p d) g) (λ d _. down_exact t g b (leading_run p d) e k) ∙ count-exact_run g n (n - suc g) p r (omega arith) in
     let c : factor n p r b ≡ r = grind (arith, nat_tests) in
     pieces n p r t b _ _ _ z u d ∙ rw c (omega (arith, inside_share n g p r))
 
@@ -138,7 +137,7 @@ below_first n p r t g b e h k =
     let z = none n q (λ _. eqb t b) (λ d. grind (arith, nat_tests)) in
     let u = none n q (λ d. eqb (up_to n t (leading_run p d)) b) (λ d. grind (arith, nat_tests)) in
     let d : count (replicate n q) (λ d. eqb (down_to t (leading_run p d)) b) ≡ p ^ g * (p + r) ^ (n - g)
-        = count-same (replicate n q) _ (λ d. leb g (leading_run p d)) (λ d _. down_end t g b (leading_run p d) e k) ∙ count-long_run g n (n - g) p r (omega arith) in
+    = count-same (replicate n q) _ (λ d. leb g (leading_run p d)) (λ d _. down_end t g b (leading_run p d) e k) ∙ count-long_run g n (n - g) p r (omega arith) in
     let c : factor n p r b ≡ p + r = grind (arith, nat_tests) in
     pieces n p r t b _ _ _ z u d ∙ rw c (omega (arith, end_share n g p r (omega arith)))
 
@@ -163,7 +162,7 @@ count-walks r p shape test stay up down w =
     let b = block p shape (λ x. f (r + x)) up (λ x i. count-same shape _ up (λ d _. w.goes_up x d i)) in
     let c = block p shape (λ x. f (p + r + x)) down (λ x i. count-same shape _ down (λ d _. w.goes_down x d i)) in
     let e : sum_below (p + r) f ≡ sum_below r f + sum_below p (λ x. f (r + x))
-        = (let o : p + r ≡ r + p = omega arith in ap (λ n. sum_below n f) o ∙ sum_below-split r p f) in
+    = (let o : p + r ≡ r + p = omega arith in ap (λ n. sum_below n f) o ∙ sum_below-split r p f) in
     sum_below-split (p + r) p f ∙ omega arith
 
 pub factor-inside : (n p r b : ℕ) → 0 < b → b < n → factor n p r b ≡ r
@@ -186,7 +185,7 @@ above_last n p r t g b e h =
     let q = p + r in
     let z = none n q (λ _. eqb t b) (λ d. grind (arith, nat_tests)) in
     let u : count (replicate n q) (λ d. eqb (up_to n t (leading_run p d)) b) ≡ p ^ g * (p + r) ^ (n - g)
-        = count-same (replicate n q) _ (λ d. leb g (leading_run p d)) (λ d _. up_end n t g b (leading_run p d) e h) ∙ count-long_run g n (n - g) p r (omega arith) in
+    = count-same (replicate n q) _ (λ d. leb g (leading_run p d)) (λ d _. up_end n t g b (leading_run p d) e h) ∙ count-long_run g n (n - g) p r (omega arith) in
     let d = none n q (λ d. eqb (down_to t (leading_run p d)) b) (λ d. grind (arith, nat_tests)) in
     let c : factor n p r b ≡ p + r = grind (arith, nat_tests) in
     pieces n p r t b _ _ _ z u d ∙ rw c (omega (arith, end_share n g p r (omega arith)))
@@ -197,7 +196,7 @@ above_inside n p r t g b e h =
     let q = p + r in
     let z = none n q (λ _. eqb t b) (λ d. grind (arith, nat_tests)) in
     let u : count (replicate n q) (λ d. eqb (up_to n t (leading_run p d)) b) ≡ p ^ g * r * (p + r) ^ (n - suc g)
-        = count-same (replicate n q) _ (λ d. eqb (leading_run p d) g) (λ d _. up_exact n t g b (leading_run p d) e h) ∙ count-exact_run g n (n - suc g) p r (omega arith) in
+    = count-same (replicate n q) _ (λ d. eqb (leading_run p d) g) (λ d _. up_exact n t g b (leading_run p d) e h) ∙ count-exact_run g n (n - suc g) p r (omega arith) in
     let d = none n q (λ d. eqb (down_to t (leading_run p d)) b) (λ d. grind (arith, nat_tests)) in
     let c : factor n p r b ≡ r = grind (arith, nat_tests) in
     pieces n p r t b _ _ _ z u d ∙ rw c (omega (arith, inside_share n g p r))
@@ -208,10 +207,10 @@ above n p r t g b e h = elim (order b n) [ Same f ↦ above_last n p r t g b e f
 -- how many draw lists end at the place b
 places-share : (n p r t b : ℕ) → t ≤ n → b ≤ n → places n p r t b ≡ share n p r b (between t b)
 places-share n p r t b h k = elim (order t b) [
-    Same e ↦ (let d : between t b ≡ 0 = omega arith in subst (λ (x : ℕ). places n p r t x ≡ share n p r x (between t b)) e (rw d (at n p r t h)))
+  | Same e ↦ (let d : between t b ≡ 0 = omega arith in subst (λ (x : ℕ). places n p r t x ≡ share n p r x (between t b)) e (rw d (at n p r t h)))
   | Less g e ↦ (let d : between t b ≡ suc g = omega arith in rw d (above n p r t g b e k))
   | More g e ↦ (let d : between t b ≡ suc g = omega arith in rw d (below n p r t g b e h))
-  ]
+]
 
 share-ratio_of : (k n p r x y e : ℕ) → x ≤ n → y ≤ n → y ≤ x + e →
     k * p ^ x * (p + r) ^ (n - x) * p ^ e ≤ (p + r) ^ e * (k * p ^ y * (p + r) ^ (n - y))
@@ -219,9 +218,9 @@ share-ratio_of k n p r x y e hx hy h =
     let q = p + r in
     let g = x + e - y in
     let low : p ^ x * p ^ e ≡ p ^ y * p ^ g
-        = (let s : x + e ≡ y + g = omega arith in sym (pow-add p x e) ∙ ap (λ m. p ^ m) s ∙ pow-add p y g) in
+    = (let s : x + e ≡ y + g = omega arith in sym (pow-add p x e) ∙ ap (λ m. p ^ m) s ∙ pow-add p y g) in
     let high : q ^ e * q ^ (n - y) ≡ q ^ (n - x) * q ^ g
-        = (let s : e + (n - y) ≡ n - x + g = omega arith in sym (pow-add q e (n - y)) ∙ ap (λ m. q ^ m) s ∙ pow-add q (n - x) g) in
+    = (let s : e + (n - y) ≡ n - x + g = omega arith in sym (pow-add q e (n - y)) ∙ ap (λ m. q ^ m) s ∙ pow-add q (n - x) g) in
     let grow : p ^ g ≤ q ^ g = pow-le-pow_left (omega arith) g in
     let whole = mul-le-mul_left (k * p ^ y * q ^ (n - x)) grow in
     omega (arith, ap (λ m. k * q ^ (n - x) * m) low, ap (λ m. k * p ^ y * m) high)

@@ -1,10 +1,10 @@
 -- The laws of the number of draw lists that meet a test.
 use Rattle.std.specs.Prelude.{◌≡◌, ℕ, ◌+◌, ◌-◌, ◌*◌, ◌^◌, ◌<◌, ◌≤◌, ◌==◌, ◌&&◌, ◌||◌, Bool, true, false, List, [], ◌∷◌, ◌++◌, length, take, drop, replicate, nat_lt, nat_le, slice_index}
-use Rattle.std.specs.List.{prefix_len, sum, sum_by, list_any}
+use Rattle.std.specs.List.{sum, sum_by, list_any}
 use lib.Pointwise.{pointwise}
-use Rattle.dp_count.specs.DrawLists.{count, IsDrawList}
+use Rattle.dp_count.specs.DrawLists.{count, IsDrawList, leading_run}
 use Rattle.dp_count.specs.Ratios.{KeepsRatio, KeepRatios, product}
-use Rattle.dp_count.specs.Slots.{Slot, joined_shape, replies, product_of_ways}
+use Rattle.dp_count.specs.Slots.{Slot, joined_shape, replies, product_of_ways, SlotsKeepRatios}
 
 -- a test of joined draws that is a test of either part: the two numbers multiply
 abbrev pub ProductLaw : Type 0
@@ -22,10 +22,6 @@ abbrev pub BlockLaw : Type 0
 BlockLaw = (front back : List ℕ) (bound : ℕ) (test rest : List ℕ → Bool)
     → ((d e : List ℕ) (draw : ℕ) → IsDrawList front d → draw < bound → IsDrawList back e → test (d ++ draw ∷ e) ≡ rest (d ++ e))
     → count (front ++ bound ∷ back) test ≡ bound * count (front ++ back) rest
-
--- how many of the first draws, one after the other, are below a limit
-abbrev pub leading_run : ℕ → List ℕ → ℕ
-leading_run limit draws = prefix_len (λ draw. nat_lt draw limit) draws
 
 -- of the lists of n draws below high, so many begin with exactly g < n draws below low
 abbrev pub RunLaw : Type 0
@@ -70,6 +66,11 @@ PartitionLaw R = (same : R → R → Bool) (shape : List ℕ) (out : List ℕ �
 abbrev pub SlotsLaw : Type 0 → Type 0
 SlotsLaw R = (same : R → R → Bool) (slots : List (Slot R)) (wanted : List R)
     → count (joined_shape slots) (λ draws. pointwise same (replies slots draws) wanted) ≡ product_of_ways same slots wanted
+
+-- slots that keep a ratio at each place: their numbers for the same replies keep it at the sum of the exponents
+abbrev pub SlotsRatioLaw : Type 0 → Type 0
+SlotsRatioLaw R = (same : R → R → Bool) (p q : ℕ) (ks : List ℕ) (slots others : List (Slot R)) (wanted : List R) → SlotsKeepRatios same p q ks slots others
+    → KeepsRatio p q (sum ks) (count (joined_shape slots) (λ draws. pointwise same (replies slots draws) wanted)) (count (joined_shape others) (λ draws. pointwise same (replies others draws) wanted))
 
 -- pairs that keep a ratio multiply, and their exponents add
 abbrev pub RatioProductLaw : Type 0

@@ -1,6 +1,7 @@
 -- Several replies made side by side: each slot has a shape of its own and a reply by its own part of the draws.
 use Rattle.std.specs.Prelude.{ℕ, ◌*◌, Bool, List, [], ◌∷◌, ◌++◌, length, take, drop}
 use Rattle.dp_count.specs.DrawLists.{count}
+use Rattle.dp_count.specs.Ratios.{KeepsRatio}
 
 -- what a slot draws, and what it replies to its draws
 pub record Slot (R : Type 0) : Type 0 where
@@ -27,3 +28,10 @@ product_of_ways same [] [] = 1
 product_of_ways same [] (reply ∷ wanted) = 0
 product_of_ways same (slot ∷ slots) [] = 0
 product_of_ways same (slot ∷ slots) (reply ∷ wanted) = slot_ways same slot reply * product_of_ways same slots wanted
+
+-- two lists of as many slots: at each place, every reply's two numbers keep the ratio at the exponent there
+unfoldable pub SlotsKeepRatios : {R : Type 0} → (R → R → Bool) → ℕ → ℕ → List ℕ → List (Slot R) → List (Slot R) → Type 0
+SlotsKeepRatios same p q [] [] [] = Unit {0}
+SlotsKeepRatios same p q (k ∷ ks) (slot ∷ slots) (other ∷ others) =
+    ((reply : _) → KeepsRatio p q k (slot_ways same slot reply) (slot_ways same other reply)) × SlotsKeepRatios same p q ks slots others
+SlotsKeepRatios same p q _ _ _ = ⊥

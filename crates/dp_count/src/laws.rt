@@ -1,5 +1,5 @@
 //! The laws of the number of draw lists that meet a test. Each is the contract of a function that does nothing.
-ghost use Rattle.dp_count.specs.CountingLaws.{ProductLaw, CutLaw, BlockLaw, RunLaw, WholeRunLaw, LongRunLaw, IntervalLaw, EitherLaw, WholeLaw, SlotsLaw, RatioProductLaw, RatioGrowthLaw, RatioListLaw, RatioSumLaw, PartitionLaw};
+ghost use Rattle.dp_count.specs.CountingLaws.{ProductLaw, CutLaw, BlockLaw, RunLaw, WholeRunLaw, LongRunLaw, IntervalLaw, EitherLaw, WholeLaw, SlotsLaw, SlotsRatioLaw, RatioProductLaw, RatioGrowthLaw, RatioListLaw, RatioSumLaw, PartitionLaw};
 
 /// The numbers of draw lists of joined shapes multiply.
 pub fn product_law()
@@ -35,9 +35,11 @@ pub fn partition_law<R>()
     ensures { PartitionLaw R }
 {}
 
-/// Of several slots side by side, the number of draw lists with the wanted replies is the product of the slots' numbers.
+/// Of several slots side by side, the number of draw lists with the wanted replies is the product of the slots' numbers,
+/// and where each slot keeps a ratio, the whole keeps it at the sum of the exponents.
 pub fn slots_law<R>()
-    ensures { SlotsLaw R }
+    ensures product { SlotsLaw R }
+    ensures ratio { SlotsRatioLaw R }
 {}
 
 /// How pairs of numbers that keep a ratio combine: by products, at greater exponents, and in lists.

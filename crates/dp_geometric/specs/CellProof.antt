@@ -1,11 +1,10 @@
 -- The proof of the law of one cell: an answer is its place from lo on, and the noise walks over the places.
-use Rattle.std.proofs.Common.{◌≡◌, ℕ, ◌+◌, ◌-◌, ◌*◌, ◌^◌, ◌≤◌, ◌<◌, ℤ, pos, neg_ℤ, ◌+ℤ◌, ◌-ℤ◌, ◌≤ℤ◌, ◌<ℤ◌, nat_abs, Bool, true, false, cond, List, [], ◌∷◌, replicate, refl, sym, ◌∙◌, ap, min, arith, ltb, eqb, Decides, ◌⊎◌, inl, inr, subst, negsuc, w64, to_z, of_z}
+use Rattle.std.proofs.Common.{◌≡◌, ℕ, ◌+◌, ◌-◌, ◌*◌, ◌^◌, ◌≤◌, ◌<◌, ℤ, pos, neg_ℤ, ◌+ℤ◌, ◌-ℤ◌, ◌≤ℤ◌, ◌<ℤ◌, nat_abs, Bool, true, false, List, [], ◌∷◌, refl, ◌∙◌, ap, arith, ltb, eqb, Decides, ◌⊎◌, inl, inr, subst, negsuc}
 use Rattle.std.specs.Ordering.{int_eq}
 use Rattle.std.proofs.lemmas.Int.{ints, clamps}
 use Rattle.std.proofs.lemmas.Bool.Decides.{nat_tests, Decides-int_eq, Decides-eqb, same_from_decides}
-use Rattle.dp_count.specs.DrawLists.{count}
 use Rattle.dp_count.proofs.Counting.{count-never}
-use Rattle.dp_count.proofs.Places.{Walks, up_to, down_to, factor, share, between, count-places, share-ratio, factor-inside, factor-first, factor-last, factor-single}
+use Rattle.dp_count.proofs.Places.{Walks, up_to, down_to, share, between, count-places, share-ratio, factor-inside, factor-first, factor-last, factor-single}
 use Rattle.dp_geometric.specs.OneCell.{width, cell_shape, leading_run, noise, clamp, cell_out}
 use Rattle.dp_geometric.specs.CellLaw.{ways, distance, away, CellCounts, CellPrivate}
 
@@ -68,9 +67,9 @@ same_place lo z a x b e f =
 -- the walks of one cell, for an answer at the place b
 cell_walks : (lo hi v a : ℤ) (p r b : ℕ) → lo ≤ℤ hi → a ≡ lo +ℤ pos b →
     Walks r p (λ draws. int_eq (cell_out lo hi p (p + r) v draws) a)
-        (λ _. eqb (place lo (clamp lo hi v)) b)
-        (λ run. eqb (up_to (width lo hi) (place lo (clamp lo hi v)) (leading_run p run)) b)
-        (λ run. eqb (down_to (place lo (clamp lo hi v)) (leading_run p run)) b)
+    (λ _. eqb (place lo (clamp lo hi v)) b)
+    (λ run. eqb (up_to (width lo hi) (place lo (clamp lo hi v)) (leading_run p run)) b)
+    (λ run. eqb (down_to (place lo (clamp lo hi v)) (leading_run p run)) b)
 unfolding cell_out
 cell_walks lo hi v a p r b h e =
     let n = width lo hi in
@@ -168,9 +167,9 @@ place-positive lo a h = omega (arith, ints)
 counts_of : (lo hi : ℤ) (p r : ℕ) → lo ≤ℤ hi → CellCounts lo hi p (p + r)
 counts_of lo hi p r h = record {
   inside = λ v a k l.
-    let e : p + r - p ≡ r = omega arith in
-    ways-share lo hi v a p r h (omega (arith, ints)) (omega (arith, ints))
-    ∙ rw (factor-inside (width lo hi) p r (place lo a) (place-positive lo a k) (place-below lo hi a (omega (arith, ints)) l), e) refl;
+      let e : p + r - p ≡ r = omega arith in
+      ways-share lo hi v a p r h (omega (arith, ints)) (omega (arith, ints))
+      ∙ rw (factor-inside (width lo hi) p r (place lo a) (place-positive lo a k) (place-below lo hi a (omega (arith, ints)) l), e) refl;
   ends = λ v a k side. ends_of lo hi v a p r h k side;
   single = λ v a e f. single_of lo hi v a p r h e f;
   outside = λ v a side. ways-outside lo hi v a p (p + r) h side;
@@ -191,7 +190,7 @@ private_within : (lo hi v w a : ℤ) (p r e : ℕ) → lo ≤ℤ hi → distance
     ways lo hi p (p + r) v a * p ^ e ≤ (p + r) ^ e * ways lo hi p (p + r) w a
 private_within lo hi v w a p r e h k l m =
     rw (ways-share lo hi v a p r h l m, ways-share lo hi w a p r h l m)
-        (share-ratio (width lo hi) p r (place lo a) (away lo hi v a) (away lo hi w a) e (away-wide lo hi v a h l m) (away-wide lo hi w a h l m) (away-near lo hi v w a e h k))
+    (share-ratio (width lo hi) p r (place lo a) (away lo hi v a) (away lo hi w a) e (away-wide lo hi v a h l m) (away-wide lo hi w a h l m) (away-near lo hi v w a e h k))
 
 private_outside : (lo hi v w a : ℤ) (p q e : ℕ) → lo ≤ℤ hi → (a <ℤ lo) ⊎ (hi <ℤ a) → ways lo hi p q v a * p ^ e ≤ q ^ e * ways lo hi p q w a
 private_outside lo hi v w a p q e h k = rw (ways-outside lo hi v a p q h k) (omega arith)

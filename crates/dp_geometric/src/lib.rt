@@ -4,5 +4,7 @@
 
 mod cells;
 mod runs;
+#[cfg(test)]
+mod small;
 
 pub use cells::Cell;

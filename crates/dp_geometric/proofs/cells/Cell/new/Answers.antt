@@ -1,4 +1,4 @@
-use Rattle.std.proofs.Common.{w64, arith}
+use Rattle.std.proofs.Common.{w64}
 use Rattle.std.proofs.lemmas.Int.{to_z-of_z}
 use Rattle.dp_geometric.specs.CellProof.{cell-counts, cell-private}
 use Rattle.dp_geometric.proofs.cells.Cell.new.Goals as goal
