@@ -1,6 +1,6 @@
 -- The number of draw lists with the wanted replies of several slots.
 use Rattle.std.proofs.Common.{◌≡◌, ℕ, ◌*◌, Bool, ◌&&◌, List, [], ◌∷◌, ◌++◌, length, take, drop, refl, ◌∙◌, ap}
-use lib.Pointwise.{pointwise}
+use Rattle.std.specs.Cmp.Lexicographic.{pointwise}
 use Rattle.dp_count.specs.DrawLists.{count}
 use Rattle.dp_count.specs.Slots.{Slot, joined_shape, replies, product_of_ways, SlotsKeepRatios}
 use Rattle.dp_count.proofs.DrawLists.{take-draws, drop-draws}

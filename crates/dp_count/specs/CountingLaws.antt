@@ -1,10 +1,8 @@
 -- The laws of the number of draw lists that meet a test.
 use Rattle.std.specs.Prelude.{◌≡◌, ℕ, ◌+◌, ◌-◌, ◌*◌, ◌^◌, ◌<◌, ◌≤◌, ◌==◌, ◌&&◌, ◌||◌, Bool, true, false, List, [], ◌∷◌, ◌++◌, length, take, drop, replicate, nat_lt, nat_le, slice_index}
-use Rattle.std.specs.List.{sum, sum_by, list_any}
-use lib.Pointwise.{pointwise}
+use Rattle.std.specs.List.{sum_by, list_any}
 use Rattle.dp_count.specs.DrawLists.{count, IsDrawList, leading_run}
-use Rattle.dp_count.specs.Ratios.{KeepsRatio, KeepRatios, product}
-use Rattle.dp_count.specs.Slots.{Slot, joined_shape, replies, product_of_ways, SlotsKeepRatios}
+use Rattle.dp_count.specs.Ratios.{product}
 
 -- a test of joined draws that is a test of either part: the two numbers multiply
 abbrev pub ProductLaw : Type 0
@@ -61,29 +59,3 @@ AreApart same (x ∷ xs) = ((r : _) → (same r x && list_any (same r) xs) ≡ f
 abbrev pub PartitionLaw : Type 0 → Type 0
 PartitionLaw R = (same : R → R → Bool) (shape : List ℕ) (out : List ℕ → R) (wanted : List R) → AreApart same wanted
     → count shape (λ draws. list_any (same (out draws)) wanted) ≡ sum_by (λ reply. count shape (λ draws. same (out draws) reply)) wanted
-
--- the wanted replies of all slots: the product of the slots' numbers
-abbrev pub SlotsLaw : Type 0 → Type 0
-SlotsLaw R = (same : R → R → Bool) (slots : List (Slot R)) (wanted : List R)
-    → count (joined_shape slots) (λ draws. pointwise same (replies slots draws) wanted) ≡ product_of_ways same slots wanted
-
--- slots that keep a ratio at each place: their numbers for the same replies keep it at the sum of the exponents
-abbrev pub SlotsRatioLaw : Type 0 → Type 0
-SlotsRatioLaw R = (same : R → R → Bool) (p q : ℕ) (ks : List ℕ) (slots others : List (Slot R)) (wanted : List R) → SlotsKeepRatios same p q ks slots others
-    → KeepsRatio p q (sum ks) (count (joined_shape slots) (λ draws. pointwise same (replies slots draws) wanted)) (count (joined_shape others) (λ draws. pointwise same (replies others draws) wanted))
-
--- pairs that keep a ratio multiply, and their exponents add
-abbrev pub RatioProductLaw : Type 0
-RatioProductLaw = (p q j k x y v w : ℕ) → KeepsRatio p q j x y → KeepsRatio p q k v w → KeepsRatio p q (j + k) (x * v) (y * w)
-
--- a pair that keeps a ratio keeps it at every greater exponent
-abbrev pub RatioGrowthLaw : Type 0
-RatioGrowthLaw = (p q j k x y : ℕ) → p ≤ q → j ≤ k → KeepsRatio p q j x y → KeepsRatio p q k x y
-
--- lists of pairs that keep a ratio: their products keep it at the sum of the exponents
-abbrev pub RatioListLaw : Type 0
-RatioListLaw = (p q : ℕ) (ks xs ys : List ℕ) → KeepRatios p q ks xs ys → KeepsRatio p q (sum ks) (product xs) (product ys)
-
--- lists of pairs that keep a ratio at one exponent: their sums keep it too
-abbrev pub RatioSumLaw : Type 0
-RatioSumLaw = (p q k : ℕ) (xs ys : List ℕ) → KeepRatios p q (replicate (length xs) k) xs ys → KeepsRatio p q k (sum xs) (sum ys)

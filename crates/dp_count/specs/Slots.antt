@@ -1,5 +1,7 @@
 -- Several replies made side by side: each slot has a shape of its own and a reply by its own part of the draws.
-use Rattle.std.specs.Prelude.{ℕ, ◌*◌, Bool, List, [], ◌∷◌, ◌++◌, length, take, drop}
+use Rattle.std.specs.Prelude.{◌≡◌, ℕ, ◌*◌, Bool, List, [], ◌∷◌, ◌++◌, length, take, drop}
+use Rattle.std.specs.List.{sum}
+use Rattle.std.specs.Cmp.Lexicographic.{pointwise}
 use Rattle.dp_count.specs.DrawLists.{count}
 use Rattle.dp_count.specs.Ratios.{KeepsRatio}
 
@@ -35,3 +37,13 @@ SlotsKeepRatios same p q [] [] [] = Unit {0}
 SlotsKeepRatios same p q (k ∷ ks) (slot ∷ slots) (other ∷ others) =
     ((reply : _) → KeepsRatio p q k (slot_ways same slot reply) (slot_ways same other reply)) × SlotsKeepRatios same p q ks slots others
 SlotsKeepRatios same p q _ _ _ = ⊥
+
+-- the wanted replies of all slots: the product of the slots' numbers
+abbrev pub SlotsLaw : Type 0 → Type 0
+SlotsLaw R = (same : R → R → Bool) (slots : List (Slot R)) (wanted : List R)
+    → count (joined_shape slots) (λ draws. pointwise same (replies slots draws) wanted) ≡ product_of_ways same slots wanted
+
+-- slots that keep a ratio at each place: their numbers for the same replies keep it at the sum of the exponents
+abbrev pub SlotsRatioLaw : Type 0 → Type 0
+SlotsRatioLaw R = (same : R → R → Bool) (p q : ℕ) (ks : List ℕ) (slots others : List (Slot R)) (wanted : List R) → SlotsKeepRatios same p q ks slots others
+    → KeepsRatio p q (sum ks) (count (joined_shape slots) (λ draws. pointwise same (replies slots draws) wanted)) (count (joined_shape others) (λ draws. pointwise same (replies others draws) wanted))

@@ -1,5 +1,7 @@
 //! The laws of the number of draw lists that meet a test. Each is the contract of a function that does nothing.
-ghost use Rattle.dp_count.specs.CountingLaws.{ProductLaw, CutLaw, BlockLaw, RunLaw, WholeRunLaw, LongRunLaw, IntervalLaw, EitherLaw, WholeLaw, SlotsLaw, SlotsRatioLaw, RatioProductLaw, RatioGrowthLaw, RatioListLaw, RatioSumLaw, PartitionLaw};
+ghost use Rattle.dp_count.specs.CountingLaws.{ProductLaw, CutLaw, BlockLaw, RunLaw, WholeRunLaw, LongRunLaw, IntervalLaw, EitherLaw, WholeLaw, PartitionLaw};
+ghost use Rattle.dp_count.specs.Slots.{SlotsLaw, SlotsRatioLaw};
+ghost use Rattle.dp_count.specs.Ratios.{RatioProductLaw, RatioGrowthLaw, RatioListLaw, RatioSumLaw};
 
 /// The numbers of draw lists of joined shapes multiply.
 pub fn product_law()
