@@ -1,5 +1,5 @@
 -- What decimal digits spell.
-use Rattle.std.specs.Prelude.{ℕ, ℤ, pos, neg_ℤ, ◌+◌, ◌*◌, ◌-◌, ◌^◌, ◌==◌, Bool, false, List, [], ◌∷◌, length, Option, Some, None, if◌then◌else◌, nat_lt, nat_le, fold, option_map, option_and_then}
+use Rattle.std.specs.Prelude.{ℕ, ℤ, pos, neg_ℤ, ◌<ℤ◌, ◌+◌, ◌*◌, ◌-◌, ◌^◌, ◌==◌, Bool, false, List, [], ◌∷◌, length, Option, Some, None, if◌then◌else◌, nat_lt, nat_le, fold, option_map, option_and_then}
 use Rattle.std.specs.List.{list_all}
 use Rattle.std.specs.Char.{is_ascii_digit}
 
@@ -30,3 +30,7 @@ signed_decimal longest [] = None
 signed_decimal longest (byte ∷ bytes) = if byte == 45
     then option_map (λ n. neg_ℤ (pos n)) (short_decimal longest bytes)
     else option_map pos (short_decimal longest (byte ∷ bytes))
+
+-- the number lies strictly between -limit and limit
+abbrev pub IsWithin : ℕ → ℤ → Type 0
+IsWithin limit z = (neg_ℤ (pos limit) <ℤ z) × (z <ℤ pos limit)

@@ -1,6 +1,6 @@
 ghost use Rattle.std.specs.Prelude.{◌≡◌, ◌≤◌, ◌<◌, ◌^◌, ◌+◌, ◌*◌, ◌-◌, if◌then◌else◌, None, IfSome, option_map, pos, neg_ℤ};
 ghost use Rattle.std.specs.Char.{is_ascii_digit};
-ghost use Rattle.dp_count.specs.Digits.{decimal, short_decimal, signed_decimal, word};
+ghost use Rattle.dp_count.specs.Digits.{decimal, short_decimal, signed_decimal, word, IsWithin};
 
 /// The number that one or more ASCII digits spell, where they are nothing else and it is below 2^64.
 pub fn decimal(bytes: &[u8]) -> Option<u64>
@@ -31,7 +31,8 @@ pub fn short_decimal(bytes: &[u8], longest: usize) -> Option<u64>
 /// The number that an optional `-` and 1 to `longest` ASCII digits spell. At most 18 digits fit.
 pub fn signed_decimal(bytes: &[u8], longest: usize) -> Option<i64>
     requires { longest ≤ 18 }
-    ensures { result ≡ signed_decimal longest bytes.now }
+    ensures number { result ≡ signed_decimal longest bytes.now }
+    ensures within { IfSome result (IsWithin (10 ^ longest)) }
 {
     let (first, rest) = bytes.split_first()?;
     if *first == b'-' {
@@ -43,7 +44,8 @@ pub fn signed_decimal(bytes: &[u8], longest: usize) -> Option<i64>
 
 fn positive(bytes: &[u8], longest: usize) -> Option<i64>
     requires { longest ≤ 18 }
-    ensures { result ≡ option_map pos (short_decimal longest bytes.now) }
+    ensures number { result ≡ option_map pos (short_decimal longest bytes.now) }
+    ensures within { IfSome result (IsWithin (10 ^ longest)) }
 {
     let number = short_decimal(bytes, longest)?;
     Some(number as i64)
@@ -51,7 +53,8 @@ fn positive(bytes: &[u8], longest: usize) -> Option<i64>
 
 fn negative(bytes: &[u8], longest: usize) -> Option<i64>
     requires { longest ≤ 18 }
-    ensures { result ≡ option_map (λ n. neg_ℤ (pos n)) (short_decimal longest bytes.now) }
+    ensures number { result ≡ option_map (λ n. neg_ℤ (pos n)) (short_decimal longest bytes.now) }
+    ensures within { IfSome result (IsWithin (10 ^ longest)) }
 {
     let number = short_decimal(bytes, longest)?;
     Some(-(number as i64))

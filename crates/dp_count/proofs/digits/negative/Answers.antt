@@ -10,8 +10,8 @@ overflow_cast-result c =
     let below = c.in_ok-number.ensures.below in
     omega (arith, ints)
 
-pub returns : goal.returns
-returns c =
+pub returns-clause-number : goal.returns-clause-number
+returns-clause-number c =
     let most = pow-le-pow_right {n = 10} (lit< tt) c.requires in
     let below = c.in_ok-number.ensures.below in
     ap Some (omega (arith, ints)) ∙ ap (option_map (λ (n : ℕ). neg_ℤ (pos n))) c.in_ok-number.ensures.number
@@ -21,3 +21,9 @@ overflow_sub-result c =
     let most = pow-le-pow_right {n = 10} (lit< tt) c.requires in
     let below = c.in_ok-number.ensures.below in
     omega (arith, ints)
+
+pub returns-clause-within : goal.returns-clause-within
+returns-clause-within c =
+    let most = pow-le-pow_right {n = 10} (lit< tt) c.requires in
+    let below = c.in_ok-number.ensures.below in
+    (omega (arith, ints), omega (arith, ints))

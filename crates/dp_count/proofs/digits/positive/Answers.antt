@@ -10,8 +10,14 @@ overflow_cast-result c =
     let below = c.in_ok-number.ensures.below in
     omega (arith, ints)
 
-pub returns : goal.returns
-returns c =
+pub returns-clause-number : goal.returns-clause-number
+returns-clause-number c =
     let most = pow-le-pow_right {n = 10} (lit< tt) c.requires in
     let below = c.in_ok-number.ensures.below in
     ap Some (omega (arith, ints)) ∙ ap (option_map pos) c.in_ok-number.ensures.number
+
+pub returns-clause-within : goal.returns-clause-within
+returns-clause-within c =
+    let most = pow-le-pow_right {n = 10} (lit< tt) c.requires in
+    let below = c.in_ok-number.ensures.below in
+    (omega (arith, ints), omega (arith, ints))

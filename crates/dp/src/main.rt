@@ -1,0 +1,35 @@
+//! The program `dp`: hands the words of the command line, the files of the system and the standard streams to the
+//! runner, and ends with the status that it answers.
+#![tactic(auto)]
+
+use dp_draws::NoDraws;
+use dp_io::{FileShelf, StdSink, write_all};
+use dp_runner::run_words;
+use std::process::ExitCode;
+use std::{env, io};
+
+/// The status where memory runs out before the runner is called.
+const NO_MEMORY: u8 = 9;
+
+fn main(rt: HostRuntime) -> ExitCode {
+    let alloc = rt.alloc();
+    let mut out = StdSink::out(&rt);
+    let mut err = StdSink::err(&rt);
+    let words = match words(&rt) {
+        Ok(words) => words,
+        Err(error) if error.kind() == io::ErrorKind::OutOfMemory => {
+            let _ = write_all(&mut err, b"dp: no memory\n");
+            return ExitCode::from(NO_MEMORY);
+        }
+        // A command line that is no text is of no form, as no words are.
+        Err(_) => Vec::new(alloc),
+    };
+    let mut shelf = FileShelf::new(rt, alloc);
+    let status = run_words(alloc, &words, &mut shelf, &mut NoDraws::new(), &mut out, &mut err);
+    ExitCode::from(status)
+}
+
+/// The words of the command line without the program's own name.
+fn words(rt: &HostRuntime) -> io::Result<Vec<String>> {
+    Ok(env::args(rt)?.skip(1).collect(rt.alloc())?)
+}

@@ -1,0 +1,16 @@
+use Rattle.std.proofs.Common.{◌≡◌, ◌≢◌, ℕ, ◌<◌, ◌≤◌, ◌-◌, length}
+use Rattle.dp_io.specs.Shelf.{preceded}
+use Rattle.dp_io.proofs.whole.read_whole.Given as goal
+
+abbrev pub invariant-loop-bytes : goal.invariant-loop-bytes
+invariant-loop-bytes g l =
+    (length l.bytes.items ≤ l.limit)
+    × (0 < length l.buffer.items)
+    × (g.S.Shelf.slots l.shelf ≡ g.S.Shelf.slots l.initial.shelf)
+    × (g.S.Shelf.files l.shelf ≡ g.S.Shelf.files l.initial.shelf)
+    × (g.S.Shelf.faults l.initial.shelf ≤ g.S.Shelf.faults l.shelf)
+    × ((n : ℕ) → n ≢ l.slot → g.S.Shelf.left l.shelf n ≡ g.S.Shelf.left l.initial.shelf n)
+    × (g.S.Shelf.left l.initial.shelf l.slot ≡ preceded l.bytes.items (g.S.Shelf.left l.shelf l.slot))
+
+abbrev pub decreases-loop-bytes : goal.decreases-loop-bytes
+decreases-loop-bytes g l = l.limit - length l.bytes.items
