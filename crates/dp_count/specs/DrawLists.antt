@@ -1,6 +1,7 @@
 -- The draw lists of a shape. A shape is a list of bounds, each at least 1. A draw list of it is a list of numbers as
 -- long as the shape, each number below the bound at its place.
-use Rattle.std.specs.Prelude.{ℕ, zero, suc, ◌+◌, ◌<◌, Bool, cond, List, [], ◌∷◌}
+use Rattle.std.specs.Prelude.{ℕ, zero, suc, ◌+◌, ◌<◌, Bool, cond, nat_lt, List, [], ◌∷◌}
+use Rattle.std.specs.List.{prefix_len}
 
 -- the sum of f over the numbers below a bound
 unfoldable pub sum_below : ℕ → (ℕ → ℕ) → ℕ
@@ -18,3 +19,7 @@ IsDrawList [] [] = Unit {0}
 IsDrawList [] (draw ∷ draws) = ⊥
 IsDrawList (bound ∷ shape) [] = ⊥
 IsDrawList (bound ∷ shape) (draw ∷ draws) = (draw < bound) × IsDrawList shape draws
+
+-- how many draws stand before the first that is not below low
+abbrev pub leading_run : ℕ → List ℕ → ℕ
+leading_run low draws = prefix_len (λ draw. nat_lt draw low) draws

@@ -1,1 +1,4 @@
+pub mod CellLaw
+pub mod CellPlaces
+pub mod CellProof
 pub mod OneCell

@@ -2,7 +2,7 @@
 -- the two numbers of the ratio low / high.
 use Rattle.std.specs.Prelude.{ℕ, ◌+◌, ◌-◌, ℤ, pos, neg_ℤ, ◌+ℤ◌, ◌-ℤ◌, nat_abs, List, [], ◌∷◌, replicate, if◌then◌else◌, nat_lt}
 use Rattle.std.specs.Int.{int_min, int_max}
-use Rattle.std.specs.List.{prefix_len}
+pub use Rattle.dp_count.specs.DrawLists.{leading_run}
 
 -- how many answers there are beside the least one
 abbrev pub width : ℤ → ℤ → ℕ
@@ -11,10 +11,6 @@ width lo hi = nat_abs (hi -ℤ lo)
 -- one first draw below high + low, then as many run draws below high as the width says
 abbrev pub cell_shape : ℤ → ℤ → ℕ → ℕ → List ℕ
 cell_shape lo hi low high = (high + low) ∷ replicate (width lo hi) high
-
--- how many run draws stand before the first that is not below low
-abbrev pub leading_run : ℕ → List ℕ → ℕ
-leading_run low run = prefix_len (λ draw. nat_lt draw low) run
 
 -- no noise for a first draw below high - low; else one more than the leading run, up for one below high, else down
 abbrev pub noise : ℕ → ℕ → ℕ → ℕ → ℤ

@@ -4,6 +4,7 @@ ghost use Rattle.std.specs.Result.{result_ok};
 ghost use Rattle.dp_count.specs.Faults.{HasCause};
 ghost use Rattle.dp_draws.specs.Taking.{take_draws};
 ghost use Rattle.dp_geometric.specs.OneCell.{cell_shape, cell_out, noise, clamp, width};
+ghost use Rattle.dp_geometric.specs.CellLaw.{CellCounts, CellPrivate};
 
 use crate::runs::leading_run;
 use dp_count::Failed;
@@ -31,7 +32,7 @@ pub struct Cell {
 }
 
 impl Cell {
-    /// The cell of these numbers.
+    /// The cell of these numbers, with how many draw lists give each answer on each value, and the privacy of the answers.
     pub fn new(lo: i64, hi: i64, low: u64, high: u64) -> Cell
         requires least { neg_ℤ (pos (2 ^ 61)) ≤ℤ lo }
         requires ordered { lo ≤ℤ hi }
@@ -44,6 +45,8 @@ impl Cell {
         ensures hi { result.hi ≡ hi }
         ensures low { result.low ≡ low }
         ensures high { result.high ≡ high }
+        ensures counts { CellCounts result.lo result.hi result.low result.high }
+        ensures private { CellPrivate result.lo result.hi result.low result.high }
     {
         Cell { lo, hi, low, high }
     }

@@ -1,0 +1,18 @@
+-- Numbers that are refused past a limit.
+use Rattle.std.specs.Prelude.{ℕ, ◌+◌, ◌^◌, ◌==◌, ◌&&◌, Bool, Option, Some, None, if◌then◌else◌, nat_lt, nat_le}
+
+-- a number of units, at most 2^32
+abbrev pub capped : ℕ → Option ℕ
+capped n = if nat_le n (2 ^ 32) then Some n else None
+
+-- p and q are the numbers of a ratio below 1
+abbrev pub is_ratio : ℕ → ℕ → Bool
+is_ratio p q = nat_le 1 p && nat_lt p q && nat_le q 65536
+
+-- two powers, where their sum is at most 2^62
+abbrev pub powers_within : ℕ → ℕ → Option (ℕ × ℕ)
+powers_within low high = if nat_le (high + low) (2 ^ 62) then Some (low, high) else None
+
+-- the powers of a ratio's numbers at u, at least 1, where their sum is at most 2^62
+unfoldable pub powers : ℕ → ℕ → ℕ → Option (ℕ × ℕ)
+powers p q u = if u == 0 then None else powers_within (p ^ u) (q ^ u)
