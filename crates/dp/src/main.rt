@@ -25,7 +25,14 @@ fn main(rt: HostRuntime) -> ExitCode {
         Err(_) => Vec::new(alloc),
     };
     let mut shelf = FileShelf::new(rt, alloc);
-    let status = run_words(alloc, &words, &mut shelf, &mut NoDraws::new(), &mut out, &mut err);
+    let status = run_words(
+        alloc,
+        &words,
+        &mut shelf,
+        &mut NoDraws::new(),
+        &mut out,
+        &mut err,
+    );
     ExitCode::from(status)
 }
 
