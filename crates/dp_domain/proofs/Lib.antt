@@ -3,3 +3,4 @@ pub mod Equality
 pub mod Growth
 pub mod Limits
 pub mod Occurrences
+pub mod WeightedSums

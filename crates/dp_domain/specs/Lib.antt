@@ -1,3 +1,4 @@
 pub mod Distance
 pub mod Domains
 pub mod Metrics
+pub mod Sums
