@@ -53,8 +53,9 @@ range-once a zero e = omega arith
 range-once a (suc n) e =
     let whole = occurrences-cons nat_eq a (range_with_len (a + 1) n) e in
     elim (cases_Bool (nat_eq e a)) [
-        inl k ↦ let same = (Decides-eqb e a).0 k in let none = absent (a + 1) n e (omega arith) in let here : one (nat_eq e a) ≡ 1 = ap one k in omega arith
-      | inr k ↦ let ih = range-once (a + 1) n e in let here : one (nat_eq e a) ≡ 0 = ap one k in omega arith ]
+      | inl k ↦ let same = (Decides-eqb e a).0 k in let none = absent (a + 1) n e (omega arith) in let here : one (nat_eq e a) ≡ 1 = ap one k in omega arith
+      | inr k ↦ let ih = range-once (a + 1) n e in let here : one (nat_eq e a) ≡ 0 = ap one k in omega arith
+    ]
 
 -- the histogram of the categories below n that a map gives: its cells are apart by at most the distance of the lists
 pub l1-histogram : {E : Type 0} (same : E → E → Bool) (told : (x y : E) → Decides (same x y) (x ≡ y)) (n : ℕ) (f : E → ℕ) (xs ys : List E) →

@@ -43,3 +43,45 @@ impl Value {
         }
     }
 }
+
+#[cfg(test)]
+mod tests {
+    use super::*;
+    use crate::domains::Domain;
+    use crate::lists::{Items, Text};
+    use std::test::Fail;
+
+    fn text(alloc: Global, text: &str) -> Result<Text, NoMemory> {
+        Ok(Items::from_vec(Vec::from_slice(alloc, text.as_bytes())?))
+    }
+
+    #[test]
+    fn copies_are_equal(rt: HostRuntime) -> Result<(), Fail> {
+        let alloc = rt.alloc();
+        let mut record = Items::new(alloc);
+        record.push(text(alloc, "3")?)?;
+        record.push(text(alloc, "12x")?)?;
+        let mut rows = Items::new(alloc);
+        rows.push(record)?;
+        let texts = rows.at(0).duplicate(alloc)?;
+        assert_eq!(rt; texts.len(), 2);
+        assert_eq!(rt; texts.at(1).as_slice(), b"12x".as_slice());
+        for value in [
+            Value::Texts(texts),
+            Value::Rows(rows),
+            Value::OptInts(Items::from_vec(Vec::from_slice(alloc, &[None, Some(-4)])?)),
+            Value::Ints(Items::from_vec(Vec::from_slice(alloc, &[7])?)),
+            Value::Cats(Items::from_vec(Vec::from_slice(alloc, &[1, 0])?)),
+            Value::Int(-9),
+            Value::Cat(5),
+            Value::IntVec(Items::from_vec(Vec::from_slice(alloc, &[6, 6])?)),
+        ] {
+            let copy = value.copy(alloc)?;
+            assert_eq!(rt;
+                format!(in alloc; "{copy:?}")?,
+                format!(in alloc; "{value:?}")?
+            );
+        }
+        Ok(())
+    }
+}
