@@ -1,12 +1,12 @@
 -- The laws of the distance of two lists in any order, for every type of elements and every test that tells them apart.
-use Rattle.std.proofs.Common.{◌≡◌, ℕ, suc, ◌+◌, ◌-◌, ◌*◌, ◌≤◌, ◌<◌, min, Bool, true, false, cond, List, [], ◌∷◌, ◌++◌, map, length, length-append, Option, Some, None, refl, sym, ◌∙◌, ap, subst, arith}
-use Rattle.std.specs.Prelude.{sum_by, count_by, filter, filter_map, Decides}
+use Rattle.std.proofs.Common.{◌≡◌, suc, ◌+◌, ◌≤◌, min, Bool, true, false, cond, List, [], ◌∷◌, ◌++◌, map, length, length-append, Option, Some, None, refl, sym, ◌∙◌, ap, arith}
+use Rattle.std.specs.Prelude.{sum_by, filter, filter_map, Decides}
 use Rattle.std.specs.List.{cons_option}
 use Rattle.std.specs.List.Sorted.{IsPermutation}
 use Rattle.std.proofs.lemmas.List.Sums.{sum_by-cons, sum_by-append, count_by-le-length}
-use Rattle.std.proofs.lemmas.List.Sorted.{length_permutation, sum_by-IsPermutation, IsPermutation-refl}
+use Rattle.std.proofs.lemmas.List.Sorted.{length_permutation, sum_by-IsPermutation}
 use Rattle.dp_domain.specs.Distance.{occurrences, distinct, apart, diff, Split}
-use Rattle.dp_domain.proofs.Occurrences.{left_over, occurrences-append, occurrences-permutation, occurrences-left_over, occurrences-distinct, sum_by-same, sum_by-add, cover, length-le, length-same, permutation-from}
+use Rattle.dp_domain.proofs.Occurrences.{left_over, occurrences-append, occurrences-permutation, occurrences-left_over, occurrences-distinct, sum_by-same, sum_by-add, cover, length-le, permutation-from}
 
 occurrences-option : {E : Type 0} (same : E → E → Bool) (xs : List E) (e : E) (o : Option E) → occurrences same (cons_option o xs) e ≡ occurrences same (cons_option o []) e + occurrences same xs e
 occurrences-option same xs e None = omega arith

@@ -1,5 +1,5 @@
 -- How far apart the sums of weights over two lists are.
-use Rattle.std.proofs.Common.{◌≡◌, ℕ, ◌+◌, ◌-◌, ◌*◌, ◌≤◌, max, Bool, ℤ, pos, negsuc, ◌+ℤ◌, ◌-ℤ◌, ◌≤ℤ◌, List, [], ◌∷◌, ◌++◌, length, length-append, refl, sym, ◌∙◌, ap, fold, arith}
+use Rattle.std.proofs.Common.{◌≡◌, ℕ, ◌+◌, ◌*◌, ◌≤◌, max, Bool, ℤ, pos, negsuc, ◌+ℤ◌, ◌-ℤ◌, List, [], ◌∷◌, ◌++◌, length, length-append, sym, ◌∙◌, ap, fold, arith}
 use Rattle.std.specs.Prelude.{sum_by, All, Decides, nat_abs}
 use Rattle.std.specs.List.Sorted.{IsPermutation}
 use Rattle.std.proofs.Math.Nat.{mul-le-mul_right, add-mul, suc-mul, add_comm}
@@ -8,7 +8,7 @@ use Rattle.std.proofs.lemmas.List.Sums.{sum_by-cons, sum_by-append, sum_by-le}
 use Rattle.std.proofs.lemmas.List.Sorted.{length_permutation, sum_by-IsPermutation, All-permutation}
 use Rattle.std.proofs.lemmas.List.Elements.{All-head, All-tail}
 use borrow.Author.Differences.{up, down}
-use Rattle.dp_domain.specs.Distance.{diff, apart}
+use Rattle.dp_domain.specs.Distance.{diff}
 use Rattle.dp_domain.specs.Domains.{IsBetween}
 use Rattle.dp_domain.specs.Sums.{int_sum_by}
 use Rattle.dp_domain.proofs.Distance.{split, split-distance}

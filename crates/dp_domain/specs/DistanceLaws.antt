@@ -1,5 +1,5 @@
 -- The laws of the distance of two lists in any order. `same` is a test that tells elements apart.
-use Rattle.std.specs.Prelude.{◌≡◌, ℕ, ◌+◌, ◌*◌, ◌≤◌, max, Bool, ℤ, pos, ◌-ℤ◌, nat_abs, nat_eq, List, ◌++◌, map, length, Option, filter, filter_map, Decides, IsPermutation, All}
+use Rattle.std.specs.Prelude.{◌≡◌, ℕ, ◌+◌, ◌*◌, ◌≤◌, max, Bool, ℤ, pos, ◌-ℤ◌, nat_abs, nat_eq, List, map, length, Option, filter, filter_map, Decides, IsPermutation, All}
 use Rattle.std.specs.List.{range_with_len}
 use Rattle.dp_domain.specs.Distance.{occurrences, Split, apart, diff, l1}
 use Rattle.dp_domain.specs.Domains.{IsBetween}
