@@ -1,0 +1,2 @@
+-- Clamping is stable.
+use Rattle.std.specs.Prelude.{ℤ}
