@@ -1,5 +1,6 @@
-ghost use Rattle.std.specs.Prelude.{◌≡◌, ◌≤ℤ◌, map, IfOk};
-ghost use Rattle.dp_domain.specs.Domains.{Fits};
+ghost use Rattle.std.specs.Prelude.{◌≡◌, ◌^◌, ◌↔◌, map, IfOk, IsTrue};
+ghost use Rattle.dp_domain.specs.Domains.{Fits, IsRange};
+ghost use Rattle.dp_law.specs.FitsProps.{Fits-prop};
 ghost use Rattle.dp_law.specs.Making.{Makes};
 ghost use Rattle.dp_domain.specs.declared.domains.Domain.TheVariants as domain;
 ghost use Rattle.dp_rowwise.specs.Clamp.{clamped, clamp_from, are_limits};
@@ -22,6 +23,8 @@ pub struct Clamp {
     from_lo: i64,
     from_hi: i64,
     size: Option<u32>,
+    ghost input_fits: { Fits (domain.Ints from_lo from_hi size) } by { Fits-prop (domain.Ints from_lo from_hi size) },
+    ghost output_fits: { Fits (domain.Ints lo hi size) } by { Fits-prop (domain.Ints lo hi size) },
 }
 
 impl Clamp {
@@ -57,6 +60,7 @@ impl Clamp {
 
 impl Transformation for Clamp {
     ghost use Rattle.dp_rowwise.specs.Clamp.{clamp};
+    ghost use Rattle.dp_rowwise.specs.ClampLaw.{clamp_law};
 
     ghost mapping = { λ t. clamp t.lo t.hi t.from_lo t.from_hi t.size };
 
@@ -100,7 +104,7 @@ impl Transformation for Clamp {
         )?)))
     }
 
-    ghost law = { ? };
+    ghost law = { λ t. clamp_law t.lo t.hi t.from_lo t.from_hi t.size t.input_fits t.output_fits };
 }
 
 /// Each number clamped.
@@ -115,7 +119,8 @@ fn clamp_all(alloc: Global, numbers: &[i64], lo: &i64, hi: &i64) -> Result<Vec<i
 
 /// Whether the limits are in order, and from -2^31 to 2^31.
 fn are_limits(lo: &i64, hi: &i64) -> bool
-    ensures { result ≡ are_limits lo.now hi.now }
+    ensures value { result ≡ are_limits lo.now hi.now }
+    ensures range { IsTrue result ↔ IsRange (2 ^ 31) lo.now hi.now }
 {
     -MOST <= *lo && *lo <= *hi && *hi <= MOST
 }
