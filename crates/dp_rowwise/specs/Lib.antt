@@ -1,3 +1,2 @@
 pub mod Clamp
 pub mod ClampLaw
-pub mod RowByRow
