@@ -2,6 +2,19 @@
 //! distance itself.
 #![tactic(auto)]
 
+mod binning;
+mod casting;
 mod clamping;
+mod copying;
+mod dropping;
+mod filtering;
+mod imputing;
+mod selecting;
 
+pub use binning::Bins;
+pub use casting::Cast;
 pub use clamping::Clamp;
+pub use dropping::DropNone;
+pub use filtering::Filter;
+pub use imputing::Impute;
+pub use selecting::Select;
