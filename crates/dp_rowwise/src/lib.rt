@@ -1,0 +1,23 @@
+//! Row-by-row transformations: each gives for every element of a list at most one element, and so is stable at the
+//! distance itself.
+#![tactic(auto)]
+
+mod binning;
+mod casting;
+mod categorising;
+mod clamping;
+mod copying;
+mod dropping;
+mod filtering;
+mod imputing;
+mod selecting;
+mod tables;
+
+pub use binning::Bins;
+pub use casting::Cast;
+pub use categorising::Categories;
+pub use clamping::Clamp;
+pub use dropping::DropNone;
+pub use filtering::Filter;
+pub use imputing::Impute;
+pub use selecting::Select;
