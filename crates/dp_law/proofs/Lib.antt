@@ -1,2 +1,3 @@
 pub mod Caps
+pub mod JoiningLaw
 pub mod Landing
