@@ -1,0 +1,14 @@
+/// How far two values are from each other.
+#[derive(Clone, Copy, Debug, PartialEq, Eq)]
+pub enum Metric {
+    /// How many elements have to be added or taken away to make one list the other, in any order.
+    Symmetric,
+    /// How many elements have to be changed to make one list the other of the same length, in any order.
+    ChangeOne,
+    /// The absolute difference of two numbers.
+    Absolute,
+    /// 0 for equal categories and 1 for different ones.
+    Discrete,
+    /// The sum of the absolute differences of two vectors' cells.
+    L1,
+}

@@ -1,0 +1,3 @@
+pub mod FitsProps
+pub mod Making
+pub mod Mapping

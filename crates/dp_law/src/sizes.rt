@@ -1,0 +1,24 @@
+ghost use Rattle.std.specs.Prelude.{◌≡◌};
+ghost use Rattle.dp_law.specs.Making.{list_metric, is_list_metric};
+
+use dp_domain::Metric;
+
+/// The metric of a list: `Symmetric` without a size, `ChangeOne` with one.
+pub fn list_metric(size: Option<u32>) -> Metric
+    ensures { result ≡ list_metric size }
+{
+    match size {
+        None => Metric::Symmetric,
+        Some(_) => Metric::ChangeOne,
+    }
+}
+
+/// Whether the metric is that of a list of the size.
+pub fn is_list_metric(size: Option<u32>, metric: Metric) -> bool
+    ensures { result ≡ is_list_metric size metric }
+{
+    match size {
+        None => matches!(metric, Metric::Symmetric),
+        Some(_) => matches!(metric, Metric::ChangeOne),
+    }
+}

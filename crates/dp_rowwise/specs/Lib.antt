@@ -1,0 +1,3 @@
+pub mod Clamp
+pub mod ClampLaw
+pub mod RowByRow
