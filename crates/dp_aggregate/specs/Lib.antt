@@ -1,0 +1,5 @@
+pub mod Count
+pub mod CountLaw
+pub mod OneNumber
+pub mod Quantise
+pub mod QuantiseLaw
