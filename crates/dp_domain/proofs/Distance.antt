@@ -3,7 +3,7 @@ use Rattle.std.proofs.Common.{◌≡◌, ℕ, suc, ◌+◌, ◌-◌, ◌*◌, �
 use Rattle.std.specs.Prelude.{sum_by, count_by, filter, filter_map, Decides}
 use Rattle.std.specs.List.{cons_option}
 use Rattle.std.specs.List.Sorted.{IsPermutation}
-use Rattle.std.proofs.lemmas.List.Sums.{sum_by-cons, sum_by-append}
+use Rattle.std.proofs.lemmas.List.Sums.{sum_by-cons, sum_by-append, count_by-le-length}
 use Rattle.std.proofs.lemmas.List.Sorted.{length_permutation, sum_by-IsPermutation, IsPermutation-refl}
 use Rattle.dp_domain.specs.Distance.{occurrences, distinct, apart, diff}
 use Rattle.dp_domain.proofs.Occurrences.{left_over, occurrences-append, occurrences-permutation, occurrences-left_over, occurrences-distinct, sum_by-same, sum_by-add, cover, length-le, length-same, permutation-from}
@@ -87,7 +87,18 @@ module _ {E : Type 0} (same : E → E → Bool) (told : (x y : E) → Decides (s
       let whole = diff-left_over xs ys in
       omega arith
 
-  -- .. and one may stand for the other
+  -- .. and only those have
+  pub diff-none : (xs ys : List E) → diff same xs ys ≡ 0 → IsPermutation xs ys
+  diff-none xs ys h =
+      let whole = diff-left_over xs ys in
+      permutation-from same told xs ys (λ e.
+          let l = occurrences-left_over same told xs ys e in
+          let r = occurrences-left_over same told ys xs e in
+          let few = count_by-le-length (same e) (left_over same xs ys) in
+          let few_other = count_by-le-length (same e) (left_over same ys xs) in
+          omega arith)
+
+  -- one such list may stand for the other
   pub diff-reorder : (xs ys zs : List E) → IsPermutation xs ys → diff same xs zs ≡ diff same ys zs
   diff-reorder xs ys zs h =
       let none = diff-order xs ys h in

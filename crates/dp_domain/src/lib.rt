@@ -5,6 +5,7 @@
 
 mod copies;
 mod domains;
+pub mod laws;
 mod lists;
 mod metrics;
 mod values;
