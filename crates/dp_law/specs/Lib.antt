@@ -1,3 +1,2 @@
-pub mod FitsProps
 pub mod Making
 pub mod Mapping

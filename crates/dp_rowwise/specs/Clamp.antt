@@ -26,8 +26,8 @@ abbrev pub are_limits : ℤ → ℤ → Bool
 are_limits lo hi = int_le (neg_ℤ (pos (2 ^ 31))) lo && int_le lo hi && int_le hi (pos (2 ^ 31))
 
 -- numbers from from_lo to from_hi to numbers from lo to hi, of the same size by the same metric
-abbrev pub clamp : ℤ → ℤ → ℤ → ℤ → Option ℕ → Mapping
-clamp lo hi from_lo from_hi size = record {
+abbrev pub clamp_mapping : ℤ → ℤ → ℤ → ℤ → Option ℕ → Mapping
+clamp_mapping lo hi from_lo from_hi size = record {
   input_domain = domain.Ints from_lo from_hi size;
   input_metric = list_metric size;
   output_domain = domain.Ints lo hi size;
@@ -38,5 +38,5 @@ clamp lo hi from_lo from_hi size = record {
 
 -- what clamping is on a domain and a metric
 abbrev pub clamp_from : ℤ → ℤ → Domain → Metric → Result Mapping Refused
-clamp_from lo hi (domain.Ints from_lo from_hi size) metric = tested (is_list_metric size metric) (are_limits lo hi) (clamp lo hi from_lo from_hi size)
+clamp_from lo hi (domain.Ints from_lo from_hi size) metric = tested (is_list_metric size metric) (are_limits lo hi) (clamp_mapping lo hi from_lo from_hi size)
 clamp_from lo hi _ metric = Err refused.Kind

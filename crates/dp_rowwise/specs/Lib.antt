@@ -1,3 +1,14 @@
+pub mod Bins
+pub mod BinsLaw
+pub mod Cast
+pub mod CastLaw
 pub mod Clamp
 pub mod ClampLaw
-pub mod RowByRow
+pub mod DropNone
+pub mod DropNoneLaw
+pub mod Filter
+pub mod FilterLaw
+pub mod Impute
+pub mod ImputeLaw
+pub mod Select
+pub mod SelectLaw

@@ -1,6 +1,6 @@
 ghost use Rattle.std.specs.Prelude.{◌≡◌, ◌^◌, ◌↔◌, map, IfOk, IsTrue};
 ghost use Rattle.dp_domain.specs.Domains.{Fits, IsRange};
-ghost use Rattle.dp_law.specs.FitsProps.{Fits-prop};
+ghost use Rattle.dp_domain.proofs.Limits.{Fits-prop};
 ghost use Rattle.dp_law.specs.Making.{Makes};
 ghost use Rattle.dp_domain.specs.declared.domains.Domain.TheVariants as domain;
 ghost use Rattle.dp_rowwise.specs.Clamp.{clamped, clamp_from, are_limits};
@@ -59,10 +59,10 @@ impl Clamp {
 }
 
 impl Transformation for Clamp {
-    ghost use Rattle.dp_rowwise.specs.Clamp.{clamp};
+    ghost use Rattle.dp_rowwise.specs.Clamp.{clamp_mapping};
     ghost use Rattle.dp_rowwise.specs.ClampLaw.{clamp_law};
 
-    ghost mapping = { λ t. clamp t.lo t.hi t.from_lo t.from_hi t.size };
+    ghost mapping = { λ t. clamp_mapping t.lo t.hi t.from_lo t.from_hi t.size };
 
     fn in_domain(&self) -> Domain {
         Domain::Ints {

@@ -1,0 +1,46 @@
+-- Casting texts to numbers.
+use Rattle.std.specs.Prelude.{ℕ, ℤ, pos, neg_ℤ, ◌^◌, ◌==◌, true, List, [], ◌∷◌, Option, Some, None, Result, Ok, Err, map, nat_le, option_map, option_and_then, if◌then◌else◌}
+use Rattle.dp_count.specs.Digits.{decimal}
+use Rattle.dp_num.specs.Limits.{capped}
+use Rattle.dp_domain.specs.declared.domains.Domain.{Domain}
+use Rattle.dp_domain.specs.declared.domains.Domain.TheVariants as domain
+use Rattle.dp_domain.specs.declared.metrics.Metric.{Metric}
+use Rattle.dp_domain.specs.declared.metrics.Metric.TheVariants as metrics
+use Rattle.dp_domain.specs.declared.values.Value.{Value}
+use Rattle.dp_domain.specs.declared.values.Value.TheVariants as value
+use Rattle.dp_law.specs.declared.refusals.Refused.{Refused}
+use Rattle.dp_law.specs.declared.refusals.Refused.TheVariants as refused
+use Rattle.dp_law.specs.Mapping.{Mapping}
+use Rattle.dp_law.specs.Making.{tested, is_symmetric}
+
+-- a number, where it is at most 2 ^ 31
+abbrev pub small : Option ℕ → Option ℕ
+small number = option_and_then (λ n. if nat_le n (2 ^ 31) then Some n else None) number
+
+-- the number from -2 ^ 31 to 2 ^ 31 that an optional `-` and one or more digits spell
+unfoldable pub cast : List ℕ → Option ℤ
+cast [] = None
+cast (byte ∷ bytes) = if byte == 45
+    then option_map (λ n. neg_ℤ (pos n)) (small (decimal bytes))
+    else option_map pos (small (decimal (byte ∷ bytes)))
+
+-- each text cast
+abbrev pub cast_value : Value → Value
+cast_value (value.Texts texts) = value.OptInts (map cast texts)
+cast_value v = v
+
+-- from texts to numbers, some of them missing
+abbrev pub cast_mapping : Mapping
+cast_mapping = record {
+  input_domain = domain.Texts;
+  input_metric = metrics.Symmetric;
+  output_domain = domain.OptInts (neg_ℤ (pos (2 ^ 31))) (pos (2 ^ 31));
+  output_metric = metrics.Symmetric;
+  function = cast_value;
+  stability_map = capped
+  }
+
+-- what casting is on a domain and a metric
+abbrev pub cast_from : Domain → Metric → Result Mapping Refused
+cast_from domain.Texts metric = tested (is_symmetric metric) true cast_mapping
+cast_from _ metric = Err refused.Kind

@@ -1,0 +1,75 @@
+-- Casting is stable.
+use Rattle.std.proofs.Common.{◌≡◌, ℕ, ℤ, pos, neg_ℤ, ◌+◌, ◌^◌, ◌≤◌, ◌<◌, Bool, true, false, cond, List, [], ◌∷◌, length, Option, Some, None, refl, sym, ◌∙◌, ap, subst, arith}
+use Rattle.std.specs.Prelude.{map, filter, filter_map, count_by, unwrap_or, All, IfSome, nat_eq, ◌≤ℤ◌, ◌*◌}
+use Rattle.std.specs.Ordering.{int_eq}
+use Rattle.std.proofs.lemmas.Int.{ints, clamps}
+use Rattle.std.proofs.lemmas.List.{length-map}
+use Rattle.std.proofs.lemmas.List.Sums.{length-filter, count_by-le-length}
+use Rattle.std.proofs.lemmas.List.Elements.{All-map, All-weaker, All-filter, All-nil, All-cons, All-head, All-tail}
+use Rattle.dp_domain.specs.declared.domains.Domain.TheVariants as domain
+use Rattle.dp_domain.specs.declared.metrics.Metric.TheVariants as metrics
+use Rattle.dp_domain.specs.declared.values.Value.{Value}
+use Rattle.dp_domain.specs.declared.values.Value.TheVariants as value
+use Rattle.dp_domain.specs.Distance.{diff, text_eq, record_eq, opt_int_eq}
+use Rattle.dp_domain.specs.Domains.{Fits, Has, HasSize, IsBetween}
+use Rattle.dp_domain.specs.Metrics.{Within}
+use Rattle.dp_domain.proofs.Distance.{diff-filter_map, diff-map, diff-filter}
+use Rattle.dp_domain.proofs.Equality.{nat_eq-decides, int_eq-decides, text_eq-decides, record_eq-decides, opt_int_eq-decides}
+use Rattle.dp_law.specs.Making.{list_metric}
+use Rattle.dp_law.specs.Mapping.{IsStable}
+use Rattle.dp_law.proofs.Caps.{capped-same, capped-le}
+use Rattle.std.specs.Prelude.{nat_le, ◌==◌, option_map, option_and_then}
+use Rattle.std.proofs.lemmas.Bool.Decides.{nat_tests}
+use Rattle.dp_count.specs.Digits.{decimal}
+use Rattle.dp_rowwise.specs.Cast.{small, cast, cast_value, cast_mapping}
+
+abbrev IsSmall : ℤ → Type 0
+IsSmall z = IsBetween (neg_ℤ (pos (2 ^ 31))) (pos (2 ^ 31)) z
+
+signed-small : (negative fits : Bool) (n : ℕ) → nat_le n (2 ^ 31) ≡ fits
+    → IfSome (cond negative (option_map (λ m. neg_ℤ (pos m)) (cond fits (Some n) None)) (option_map pos (cond fits (Some n) None))) IsSmall
+signed-small true true n h = let le : n ≤ 2 ^ 31 = grind (arith, nat_tests) in (omega (arith, ints), omega (arith, ints))
+signed-small false true n h = let le : n ≤ 2 ^ 31 = grind (arith, nat_tests) in (omega (arith, ints), omega (arith, ints))
+signed-small true false n h = tt
+signed-small false false n h = tt
+
+negative-small : (number : Option ℕ) → IfSome (option_map (λ n. neg_ℤ (pos n)) (small number)) IsSmall
+negative-small None = tt
+negative-small (Some n) = signed-small true (nat_le n (2 ^ 31)) n refl
+
+positive-small : (number : Option ℕ) → IfSome (option_map pos (small number)) IsSmall
+positive-small None = tt
+positive-small (Some n) = signed-small false (nat_le n (2 ^ 31)) n refl
+
+either-small : (negative : Bool) (one other : Option ℤ) → IfSome one IsSmall → IfSome other IsSmall → IfSome (cond negative one other) IsSmall
+either-small true one other h k = h
+either-small false one other h k = k
+
+cast-small : (text : List ℕ) → IfSome (cast text) IsSmall
+unfolding cast
+cast-small [] = tt
+cast-small (byte ∷ bytes) = either-small (byte == 45) (option_map (λ n. neg_ℤ (pos n)) (small (decimal bytes))) (option_map pos (small (decimal (byte ∷ bytes)))) (negative-small (decimal bytes)) (positive-small (decimal (byte ∷ bytes)))
+
+All-each : {X : Type 0} (P : X → Type 0) (xs : List X) → ((x : X) → P x) → All P xs
+All-each P [] each = All-nil P
+All-each P (x ∷ xs) each = All-cons P x xs (each x) (All-each P xs each)
+
+cast_lands : (v : Value) → Has domain.Texts v → Has (domain.OptInts (neg_ℤ (pos (2 ^ 31))) (pos (2 ^ 31))) (cast_value v)
+cast_lands (value.Texts texts) has = (rw length-map has, All-map (λ x. IfSome x IsSmall) cast texts (All-each (λ text. IfSome (cast text) IsSmall) texts cast-small))
+cast_lands v has = absurd has
+
+cast_stable : (d e : ℕ) (v w : Value) → d ≡ e → Has domain.Texts v → Has domain.Texts w
+    → Within metrics.Symmetric d v w → Within metrics.Symmetric e (cast_value v) (cast_value w)
+cast_stable d e (value.Texts xs) (value.Texts ys) same has_v has_w near =
+    omega (arith, near, diff-map text_eq text_eq-decides opt_int_eq opt_int_eq-decides cast xs ys)
+cast_stable d e (value.Texts xs) w same has_v has_w near = absurd has_w
+cast_stable d e v w same has_v has_w near = absurd has_v
+
+pub cast_law : IsStable cast_mapping
+cast_law = record {
+  input_fits = tt;
+  output_fits = (omega (arith, ints), omega (arith, ints), omega (arith, ints));
+  lands = cast_lands;
+  limited = capped-le;
+  stable = λ d e v w map_is. cast_stable d e v w (capped-same d e map_is)
+  }

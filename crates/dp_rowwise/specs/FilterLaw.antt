@@ -1,0 +1,43 @@
+-- Filtering is stable.
+use Rattle.std.proofs.Common.{◌≡◌, ℕ, ℤ, pos, neg_ℤ, ◌+◌, ◌^◌, ◌≤◌, ◌<◌, Bool, true, false, cond, List, [], ◌∷◌, length, Option, Some, None, refl, sym, ◌∙◌, ap, subst, arith}
+use Rattle.std.specs.Prelude.{map, filter, filter_map, count_by, unwrap_or, All, IfSome, nat_eq, ◌≤ℤ◌, ◌*◌}
+use Rattle.std.specs.Ordering.{int_eq}
+use Rattle.std.proofs.lemmas.Int.{ints, clamps}
+use Rattle.std.proofs.lemmas.List.{length-map}
+use Rattle.std.proofs.lemmas.List.Sums.{length-filter, count_by-le-length}
+use Rattle.std.proofs.lemmas.List.Elements.{All-map, All-weaker, All-filter, All-nil, All-cons, All-head, All-tail}
+use Rattle.dp_domain.specs.declared.domains.Domain.TheVariants as domain
+use Rattle.dp_domain.specs.declared.metrics.Metric.TheVariants as metrics
+use Rattle.dp_domain.specs.declared.values.Value.{Value}
+use Rattle.dp_domain.specs.declared.values.Value.TheVariants as value
+use Rattle.dp_domain.specs.Distance.{diff, text_eq, record_eq, opt_int_eq}
+use Rattle.dp_domain.specs.Domains.{Fits, Has, HasSize, IsBetween}
+use Rattle.dp_domain.specs.Metrics.{Within}
+use Rattle.dp_domain.proofs.Distance.{diff-filter_map, diff-map, diff-filter}
+use Rattle.dp_domain.proofs.Equality.{nat_eq-decides, int_eq-decides, text_eq-decides, record_eq-decides, opt_int_eq-decides}
+use Rattle.dp_law.specs.Making.{list_metric}
+use Rattle.dp_law.specs.Mapping.{IsStable}
+use Rattle.dp_law.proofs.Caps.{capped-same, capped-le}
+use Rattle.dp_rowwise.specs.Filter.{cell, filter_value, filter_mapping}
+
+filter_lands : (column : ℕ) (text : List ℕ) (columns : ℕ) (v : Value) → Has (domain.Rows columns) v → Has (domain.Rows columns) (filter_value column text v)
+filter_lands column text columns (value.Rows rows) has =
+    let kept = λ (cells : List (List ℕ)). text_eq (cell column cells) text in
+    (omega (arith, has.0, length-filter kept rows, count_by-le-length kept rows), All-filter kept (λ cells. length cells ≡ columns) rows has.1)
+filter_lands column text columns v has = absurd has
+
+filter_stable : (column : ℕ) (text : List ℕ) (columns d e : ℕ) (v w : Value) → d ≡ e → Has (domain.Rows columns) v → Has (domain.Rows columns) w
+    → Within metrics.Symmetric d v w → Within metrics.Symmetric e (filter_value column text v) (filter_value column text w)
+filter_stable column text columns d e (value.Rows xs) (value.Rows ys) same has_v has_w near =
+    omega (arith, near, diff-filter record_eq record_eq-decides (λ cells. text_eq (cell column cells) text) xs ys)
+filter_stable column text columns d e (value.Rows xs) w same has_v has_w near = absurd has_w
+filter_stable column text columns d e v w same has_v has_w near = absurd has_v
+
+pub filter_law : (column : ℕ) (text : List ℕ) (columns : ℕ) → Fits (domain.Rows columns) → IsStable (filter_mapping column text columns)
+filter_law column text columns fits = record {
+  input_fits = fits;
+  output_fits = fits;
+  lands = filter_lands column text columns;
+  limited = capped-le;
+  stable = λ d e v w map_is. filter_stable column text columns d e v w (capped-same d e map_is)
+  }
