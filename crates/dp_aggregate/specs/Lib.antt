@@ -1,5 +1,10 @@
+pub mod AtLeast
+pub mod AtLeastLaw
 pub mod Count
 pub mod CountLaw
+pub mod Edges
+pub mod Histogram
+pub mod HistogramLaw
 pub mod OneNumber
 pub mod Quantise
 pub mod QuantiseLaw

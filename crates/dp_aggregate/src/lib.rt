@@ -3,7 +3,13 @@
 #![tactic(auto)]
 
 mod counting;
+mod frequencies;
+mod one_number;
 mod quantising;
+mod reaching;
+mod rising;
 
 pub use counting::Count;
+pub use frequencies::Histogram;
 pub use quantising::Quantise;
+pub use reaching::AtLeast;

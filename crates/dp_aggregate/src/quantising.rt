@@ -3,9 +3,9 @@ ghost use Rattle.dp_domain.specs.Domains.{Fits};
 ghost use Rattle.dp_domain.proofs.Limits.{Fits-prop};
 ghost use Rattle.dp_law.specs.Making.{Makes};
 ghost use Rattle.dp_domain.specs.declared.domains.Domain.TheVariants as domain;
-ghost use Rattle.dp_aggregate.specs.OneNumber.{is_absolute};
 ghost use Rattle.dp_aggregate.specs.Quantise.{quantised, quantise_from, is_step};
 
+use crate::one_number::is_absolute;
 use dp_count::NoMemory;
 use dp_domain::{Domain, Metric, Value};
 use dp_law::{Refused, Transformation};
@@ -94,13 +94,6 @@ fn quantised(step: u64, number: &i64) -> i64
     ensures { result ≡ quantised step number.now }
 {
     floor_div(*number, step as i64)
-}
-
-/// Whether the metric is `Absolute`.
-fn is_absolute(metric: Metric) -> bool
-    ensures { result ≡ is_absolute metric }
-{
-    matches!(metric, Metric::Absolute)
 }
 
 /// Whether the step is from 1 to 2^31.
