@@ -8,3 +8,5 @@ pub mod HistogramLaw
 pub mod OneNumber
 pub mod Quantise
 pub mod QuantiseLaw
+pub mod Sum
+pub mod SumLaw

@@ -8,8 +8,10 @@ mod one_number;
 mod quantising;
 mod reaching;
 mod rising;
+mod summing;
 
 pub use counting::Count;
 pub use frequencies::Histogram;
 pub use quantising::Quantise;
 pub use reaching::AtLeast;
+pub use summing::Sum;
