@@ -1,0 +1,2 @@
+pub mod EdgeTests
+pub mod Frequency

@@ -1,0 +1,12 @@
+pub mod AtLeast
+pub mod AtLeastLaw
+pub mod Count
+pub mod CountLaw
+pub mod Edges
+pub mod Histogram
+pub mod HistogramLaw
+pub mod OneNumber
+pub mod Quantise
+pub mod QuantiseLaw
+pub mod Sum
+pub mod SumLaw
