@@ -19,7 +19,8 @@ l1-map f g (e ∷ keys) =
     ∙ ap (λ n. nat_abs (f e -ℤ g e) + n) (l1-map f g keys)
     ∙ sym (sum_by-cons (λ y. nat_abs (f y -ℤ g y)) e keys)
 
-apart-pos : (a b : ℕ) → nat_abs (pos a -ℤ pos b) ≡ apart a b
+-- the absolute difference of two natural numbers
+pub apart-pos : (a b : ℕ) → nat_abs (pos a -ℤ pos b) ≡ apart a b
 apart-pos a b = omega (arith, ints)
 
 -- numbers of occurrences at keys without repeats are apart by at most the distance of the lists

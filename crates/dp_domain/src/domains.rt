@@ -84,41 +84,26 @@ impl Domain {
         requires other { Fits other.now }
         ensures { IsTrue result ↔ (self.now ≡ other.now) }
     {
-        match (self, other) {
-            (Domain::Rows { columns: c }, Domain::Rows { columns: d }) => *c == *d,
-            (Domain::Texts, Domain::Texts) => true,
-            (Domain::OptInts { lo: l, hi: h }, Domain::OptInts { lo: m, hi: i }) => same_range(
-                l, h, m, i,
-            ),
-            (
-                Domain::Ints {
-                    lo: l,
-                    hi: h,
-                    size: s,
-                },
-                Domain::Ints {
-                    lo: m,
-                    hi: i,
-                    size: t,
-                },
-            ) => { same_range(l, h, m, i) && *s == *t }
-            (Domain::Cats { n: c, size: s }, Domain::Cats { n: d, size: t }) => *c == *d
-                && *s == *t,
-            (Domain::Int { lo: l, hi: h }, Domain::Int { lo: m, hi: i }) => same_range(l, h, m, i),
-            (Domain::Cat { n: c }, Domain::Cat { n: d }) => *c == *d,
-            (
-                Domain::IntVec {
-                    len: c,
-                    lo: l,
-                    hi: h,
-                },
-                Domain::IntVec {
-                    len: d,
-                    lo: m,
-                    hi: i,
-                },
-            ) => { *c == *d && same_range(l, h, m, i) }
-            _ => false,
+        match self {
+            Domain::Rows { columns } =>
+                matches!(other, Domain::Rows { columns: c } if *columns == *c),
+            Domain::Texts => matches!(other, Domain::Texts),
+            Domain::OptInts { lo, hi } => {
+                matches!(other, Domain::OptInts { lo: l, hi: h } if same_range(lo, hi, l, h))
+            }
+            Domain::Ints { lo, hi, size } => {
+                matches!(other, Domain::Ints { lo: l, hi: h, size: s } if same_range(lo, hi, l, h) && *size == *s)
+            }
+            Domain::Cats { n, size } => {
+                matches!(other, Domain::Cats { n: m, size: s } if *n == *m && *size == *s)
+            }
+            Domain::Int { lo, hi } => {
+                matches!(other, Domain::Int { lo: l, hi: h } if same_range(lo, hi, l, h))
+            }
+            Domain::Cat { n } => matches!(other, Domain::Cat { n: m } if *n == *m),
+            Domain::IntVec { len, lo, hi } => {
+                matches!(other, Domain::IntVec { len: m, lo: l, hi: h } if *len == *m && same_range(lo, hi, l, h))
+            }
         }
     }
 }
