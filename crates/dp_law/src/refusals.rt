@@ -51,3 +51,20 @@ impl From<Refused> for MakeFault {
         }
     }
 }
+
+#[cfg(test)]
+mod tests {
+    use super::*;
+
+    #[test]
+    fn refusals_become_faults_of_the_same_name(rt: HostRuntime) {
+        for (refused, fault) in [
+            (Refused::Kind, MakeFault::Kind),
+            (Refused::Metric, MakeFault::Metric),
+            (Refused::Bound, MakeFault::Bound),
+        ] {
+            assert_eq!(rt; MakeFault::from(refused), fault);
+        }
+        assert_eq!(rt; MakeFault::from(NoMemory), MakeFault::NoMemory);
+    }
+}

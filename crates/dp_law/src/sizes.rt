@@ -22,3 +22,18 @@ pub fn is_list_metric(size: Option<u32>, metric: Metric) -> bool
         Some(_) => matches!(metric, Metric::ChangeOne),
     }
 }
+
+#[cfg(test)]
+mod tests {
+    use super::*;
+
+    #[test]
+    fn a_size_decides_the_metric(rt: HostRuntime) {
+        assert_eq!(rt; list_metric(None), Metric::Symmetric);
+        assert_eq!(rt; list_metric(Some(3)), Metric::ChangeOne);
+        assert!(rt; is_list_metric(None, Metric::Symmetric));
+        assert!(rt; !is_list_metric(None, Metric::ChangeOne));
+        assert!(rt; is_list_metric(Some(3), Metric::ChangeOne));
+        assert!(rt; !is_list_metric(Some(3), Metric::L1));
+    }
+}

@@ -52,8 +52,8 @@ bins_mapping edges lo hi size = record {
   output_domain = domain.Cats (length edges + 1) size;
   output_metric = list_metric size;
   function = bins_value edges;
-  stability_map = capped
-  }
+  stability_map = capped;
+}
 
 -- what bins are on a domain and a metric
 abbrev pub bins_from : List ℤ → Domain → Metric → Result Mapping Refused

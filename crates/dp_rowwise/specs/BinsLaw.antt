@@ -1,5 +1,5 @@
 -- Bins are stable.
-use Rattle.std.proofs.Common.{◌≡◌, ℕ, ℤ, pos, neg_ℤ, ◌+◌, ◌^◌, ◌≤◌, ◌<◌, Bool, true, false, cond, List, [], ◌∷◌, length, Option, Some, None, refl, sym, ◌∙◌, ap, subst, arith}
+use Rattle.std.proofs.Common.{◌≡◌, ℕ, ℤ, pos, neg_ℤ, ◌+◌, ◌^◌, ◌≤◌, ◌<◌, Bool, true, false, cond, List, [], ◌∷◌, length, get_or, Option, Some, None, refl, sym, ◌∙◌, ap, subst, arith}
 use Rattle.std.specs.Prelude.{map, filter, filter_map, count_by, unwrap_or, All, IfSome, nat_eq, ◌≤ℤ◌, ◌*◌}
 use Rattle.std.specs.Ordering.{int_eq}
 use Rattle.std.proofs.lemmas.Int.{ints, clamps}
@@ -21,13 +21,9 @@ use Rattle.dp_law.proofs.Caps.{capped-same, capped-le}
 use Rattle.std.specs.Prelude.{int_le}
 use Rattle.dp_rowwise.specs.Bins.{bin, bins_value, bins_mapping}
 
-All-each : {X : Type 0} (P : X → Type 0) (xs : List X) → ((x : X) → P x) → All P xs
-All-each P [] each = All-nil P
-All-each P (x ∷ xs) each = All-cons P x xs (each x) (All-each P xs each)
-
 bins_lands : (edges : List ℤ) (lo hi : ℤ) (size : Option ℕ) (v : Value) → Has (domain.Ints lo hi size) v → Has (domain.Cats (length edges + 1) size) (bins_value edges v)
 bins_lands edges lo hi size (value.Ints xs) has =
-    (rw length-map has.0, All-map (λ category. category < length edges + 1) (bin edges) xs (All-each (λ z. bin edges z < length edges + 1) xs (λ z. omega (arith, count_by-le-length (λ edge. int_le edge z) edges))))
+    (rw length-map has.0, All-map (λ category. category < length edges + 1) (bin edges) xs (λ k d within. omega (arith, count_by-le-length (λ edge. int_le edge (get_or xs k d)) edges)))
 bins_lands edges lo hi size v has = absurd has
 
 bins_stable : (edges : List ℤ) (lo hi : ℤ) (size : Option ℕ) (d e : ℕ) (v w : Value) → d ≡ e → Has (domain.Ints lo hi size) v → Has (domain.Ints lo hi size) w
@@ -45,5 +41,5 @@ bins_law edges lo hi size input output = record {
   output_fits = output;
   lands = bins_lands edges lo hi size;
   limited = capped-le;
-  stable = λ d e v w map_is. bins_stable edges lo hi size d e v w (capped-same d e map_is)
-  }
+  stable = λ d e v w map_is. bins_stable edges lo hi size d e v w (capped-same d e map_is);
+}

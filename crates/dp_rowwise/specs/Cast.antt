@@ -37,8 +37,8 @@ cast_mapping = record {
   output_domain = domain.OptInts (neg_ℤ (pos (2 ^ 31))) (pos (2 ^ 31));
   output_metric = metrics.Symmetric;
   function = cast_value;
-  stability_map = capped
-  }
+  stability_map = capped;
+}
 
 -- what casting is on a domain and a metric
 abbrev pub cast_from : Domain → Metric → Result Mapping Refused

@@ -1,5 +1,5 @@
 -- Casting is stable.
-use Rattle.std.proofs.Common.{◌≡◌, ℕ, ℤ, pos, neg_ℤ, ◌+◌, ◌^◌, ◌≤◌, ◌<◌, Bool, true, false, cond, List, [], ◌∷◌, length, Option, Some, None, refl, sym, ◌∙◌, ap, subst, arith}
+use Rattle.std.proofs.Common.{◌≡◌, ℕ, ℤ, pos, neg_ℤ, ◌+◌, ◌^◌, ◌≤◌, ◌<◌, Bool, true, false, cond, List, [], ◌∷◌, length, get_or, Option, Some, None, refl, sym, ◌∙◌, ap, subst, arith}
 use Rattle.std.specs.Prelude.{map, filter, filter_map, count_by, unwrap_or, All, IfSome, nat_eq, ◌≤ℤ◌, ◌*◌}
 use Rattle.std.specs.Ordering.{int_eq}
 use Rattle.std.proofs.lemmas.Int.{ints, clamps}
@@ -50,12 +50,8 @@ unfolding cast
 cast-small [] = tt
 cast-small (byte ∷ bytes) = either-small (byte == 45) (option_map (λ n. neg_ℤ (pos n)) (small (decimal bytes))) (option_map pos (small (decimal (byte ∷ bytes)))) (negative-small (decimal bytes)) (positive-small (decimal (byte ∷ bytes)))
 
-All-each : {X : Type 0} (P : X → Type 0) (xs : List X) → ((x : X) → P x) → All P xs
-All-each P [] each = All-nil P
-All-each P (x ∷ xs) each = All-cons P x xs (each x) (All-each P xs each)
-
 cast_lands : (v : Value) → Has domain.Texts v → Has (domain.OptInts (neg_ℤ (pos (2 ^ 31))) (pos (2 ^ 31))) (cast_value v)
-cast_lands (value.Texts texts) has = (rw length-map has, All-map (λ x. IfSome x IsSmall) cast texts (All-each (λ text. IfSome (cast text) IsSmall) texts cast-small))
+cast_lands (value.Texts texts) has = (rw length-map has, All-map (λ x. IfSome x IsSmall) cast texts (λ k d within. cast-small (get_or texts k d)))
 cast_lands v has = absurd has
 
 cast_stable : (d e : ℕ) (v w : Value) → d ≡ e → Has domain.Texts v → Has domain.Texts w
@@ -71,5 +67,5 @@ cast_law = record {
   output_fits = (omega (arith, ints), omega (arith, ints), omega (arith, ints));
   lands = cast_lands;
   limited = capped-le;
-  stable = λ d e v w map_is. cast_stable d e v w (capped-same d e map_is)
-  }
+  stable = λ d e v w map_is. cast_stable d e v w (capped-same d e map_is);
+}

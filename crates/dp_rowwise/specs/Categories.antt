@@ -40,8 +40,8 @@ categories_mapping texts = record {
   output_domain = domain.Cats (length texts + 1) None;
   output_metric = metrics.Symmetric;
   function = categories_value texts;
-  stability_map = capped
-  }
+  stability_map = capped;
+}
 
 -- what categories are on a domain and a metric
 abbrev pub categories_from : List (List ℕ) → Domain → Metric → Result Mapping Refused

@@ -1,5 +1,5 @@
 -- Categories are stable.
-use Rattle.std.proofs.Common.{◌≡◌, ℕ, ◌+◌, ◌≤◌, ◌<◌, Bool, true, false, List, [], ◌∷◌, length, Option, Some, None, arith}
+use Rattle.std.proofs.Common.{◌≡◌, ℕ, ◌+◌, ◌≤◌, ◌<◌, Bool, true, false, List, [], ◌∷◌, length, get_or, Option, Some, None, arith}
 use Rattle.std.specs.Prelude.{map, All, nat_eq, not}
 use Rattle.std.specs.List.{position_or_len}
 use Rattle.std.proofs.lemmas.List.{length-map}
@@ -21,13 +21,9 @@ use Rattle.dp_rowwise.specs.Categories.{place_in, categories_value, categories_m
 place_in-le : (texts : List (List ℕ)) (text : List ℕ) → place_in texts text ≤ length texts
 place_in-le texts text = prefix_len-le-length (λ other. not (text_eq text other)) texts
 
-All-each : {X : Type 0} (P : X → Type 0) (xs : List X) → ((x : X) → P x) → All P xs
-All-each P [] each = All-nil P
-All-each P (x ∷ xs) each = All-cons P x xs (each x) (All-each P xs each)
-
 categories_lands : (texts : List (List ℕ)) (v : Value) → Has domain.Texts v → Has (domain.Cats (length texts + 1) None) (categories_value texts v)
 categories_lands texts (value.Texts found) has =
-    (rw length-map has, All-map (λ category. category < length texts + 1) (place_in texts) found (All-each (λ text. place_in texts text < length texts + 1) found (λ text. omega (arith, place_in-le texts text))))
+    (rw length-map has, All-map (λ category. category < length texts + 1) (place_in texts) found (λ k d within. omega (arith, place_in-le texts (get_or found k d))))
 categories_lands texts v has = absurd has
 
 categories_stable : (texts : List (List ℕ)) (d e : ℕ) (v w : Value) → d ≡ e → Has domain.Texts v → Has domain.Texts w
@@ -43,5 +39,5 @@ categories_law texts fits = record {
   output_fits = fits;
   lands = categories_lands texts;
   limited = capped-le;
-  stable = λ d e v w map_is. categories_stable texts d e v w (capped-same d e map_is)
-  }
+  stable = λ d e v w map_is. categories_stable texts d e v w (capped-same d e map_is);
+}

@@ -33,8 +33,8 @@ clamp_mapping lo hi from_lo from_hi size = record {
   output_domain = domain.Ints lo hi size;
   output_metric = list_metric size;
   function = clamp_value lo hi;
-  stability_map = capped
-  }
+  stability_map = capped;
+}
 
 -- what clamping is on a domain and a metric
 abbrev pub clamp_from : ℤ → ℤ → Domain → Metric → Result Mapping Refused

@@ -42,5 +42,5 @@ clamp_law lo hi from_lo from_hi size input output = record {
   output_fits = output;
   lands = clamp_lands lo hi from_lo from_hi size output.0.1;
   limited = capped-le;
-  stable = λ d e v w map_is has_v has_w near. clamp_stable_at lo hi from_lo from_hi size d e v w (capped-same d e map_is) has_v has_w near
-  }
+  stable = λ d e v w map_is has_v has_w near. clamp_stable_at lo hi from_lo from_hi size d e v w (capped-same d e map_is) has_v has_w near;
+}

@@ -25,8 +25,8 @@ drop_none_mapping lo hi = record {
   output_domain = domain.Ints lo hi None;
   output_metric = metrics.Symmetric;
   function = drop_none_value;
-  stability_map = capped
-  }
+  stability_map = capped;
+}
 
 -- what dropping is on a domain and a metric
 abbrev pub drop_none_from : Domain → Metric → Result Mapping Refused

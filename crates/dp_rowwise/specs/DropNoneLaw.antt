@@ -54,5 +54,5 @@ drop_none_law lo hi fits = record {
   output_fits = (fits, tt);
   lands = drop_none_lands lo hi;
   limited = capped-le;
-  stable = λ d e v w map_is. drop_none_stable lo hi d e v w (capped-same d e map_is)
-  }
+  stable = λ d e v w map_is. drop_none_stable lo hi d e v w (capped-same d e map_is);
+}

@@ -30,8 +30,8 @@ filter_mapping column text columns = record {
   output_domain = domain.Rows columns;
   output_metric = metrics.Symmetric;
   function = filter_value column text;
-  stability_map = capped
-  }
+  stability_map = capped;
+}
 
 -- what filtering is on a domain and a metric
 abbrev pub filter_from : ℕ → List ℕ → Domain → Metric → Result Mapping Refused

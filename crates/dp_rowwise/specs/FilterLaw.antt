@@ -39,5 +39,5 @@ filter_law column text columns fits = record {
   output_fits = fits;
   lands = filter_lands column text columns;
   limited = capped-le;
-  stable = λ d e v w map_is. filter_stable column text columns d e v w (capped-same d e map_is)
-  }
+  stable = λ d e v w map_is. filter_stable column text columns d e v w (capped-same d e map_is);
+}

@@ -29,8 +29,8 @@ impute_mapping number lo hi = record {
   output_domain = domain.Ints lo hi None;
   output_metric = metrics.Symmetric;
   function = impute_value number;
-  stability_map = capped
-  }
+  stability_map = capped;
+}
 
 -- what imputing is on a domain and a metric
 abbrev pub impute_from : ℤ → Domain → Metric → Result Mapping Refused

@@ -42,5 +42,5 @@ impute_law number lo hi fits between = record {
   output_fits = (fits, tt);
   lands = impute_lands number lo hi between;
   limited = capped-le;
-  stable = λ d e v w map_is. impute_stable number lo hi d e v w (capped-same d e map_is)
-  }
+  stable = λ d e v w map_is. impute_stable number lo hi d e v w (capped-same d e map_is);
+}

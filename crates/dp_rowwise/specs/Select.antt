@@ -26,8 +26,8 @@ select_mapping column columns = record {
   output_domain = domain.Texts;
   output_metric = metrics.Symmetric;
   function = select_value column;
-  stability_map = capped
-  }
+  stability_map = capped;
+}
 
 -- what selecting is on a domain and a metric
 abbrev pub select_from : ℕ → Domain → Metric → Result Mapping Refused

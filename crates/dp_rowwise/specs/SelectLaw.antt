@@ -38,5 +38,5 @@ select_law column columns fits = record {
   output_fits = tt;
   lands = select_lands column columns;
   limited = capped-le;
-  stable = λ d e v w map_is. select_stable column columns d e v w (capped-same d e map_is)
-  }
+  stable = λ d e v w map_is. select_stable column columns d e v w (capped-same d e map_is);
+}

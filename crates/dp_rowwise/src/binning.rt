@@ -108,10 +108,12 @@ fn bin_all(alloc: Global, edges: &[i64], numbers: &[i64]) -> Result<Vec<u32>, No
     requires rising { is_rising edges.now ≡ true }
     ensures { IfOk result (λ bins. bins.items ≡ map (bin edges.now) numbers.now) }
 {
-    Ok(numbers
-        .iter()
-        .map(|number| bin(edges, number))
-        .collect(alloc)?)
+    Ok(
+        numbers
+            .iter()
+            .map(|number| bin(edges, number))
+            .collect(alloc)?,
+    )
 }
 
 /// How many edges are at most the number.

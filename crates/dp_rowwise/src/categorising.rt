@@ -27,7 +27,12 @@ impl Categories {
     /// The categories of the texts. `Kind` comes exactly where the domain is not `Texts`, `Metric` exactly where it is
     /// and the metric is not `Symmetric`, and `Bound` exactly where neither comes and the texts are not 1 to 1,023 that
     /// are all different.
-    pub fn new(alloc: Global, domain: Domain, metric: Metric, texts: Texts) -> Result<Categories, MakeFault>
+    pub fn new(
+        alloc: Global,
+        domain: Domain,
+        metric: Metric,
+        texts: Texts,
+    ) -> Result<Categories, MakeFault>
         requires { Fits domain }
         ensures { MakesOr ⟦<Categories as Transformation>⟧.mapping result (categories_from texts domain metric) }
     {
@@ -92,10 +97,12 @@ fn number_all(alloc: Global, table: &Table, texts: &[Text]) -> Result<Vec<u32>, 
     requires { length table.now ≤ 1023 }
     ensures { IfOk result (λ numbers. numbers.items ≡ map (place_in table.now) texts.now) }
 {
-    Ok(texts
-        .iter()
-        .map(|text| number_of(table, text))
-        .collect(alloc)?)
+    Ok(
+        texts
+            .iter()
+            .map(|text| number_of(table, text))
+            .collect(alloc)?,
+    )
 }
 
 /// The place of a text.

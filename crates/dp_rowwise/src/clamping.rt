@@ -96,12 +96,7 @@ impl Transformation for Clamp {
         let Value::Ints(numbers) = v else {
             unreachable!()
         };
-        Ok(Value::Ints(Ints::from_vec(clamp_all(
-            alloc,
-            numbers.as_slice(),
-            &self.lo,
-            &self.hi,
-        )?)))
+        Ok(Value::Ints(Ints::from_vec(clamp_all(alloc, numbers.as_slice(), &self.lo, &self.hi)?)))
     }
 
     ghost law = { λ t. clamp_law t.lo t.hi t.from_lo t.from_hi t.size t.input_fits t.output_fits };
@@ -111,10 +106,12 @@ impl Transformation for Clamp {
 fn clamp_all(alloc: Global, numbers: &[i64], lo: &i64, hi: &i64) -> Result<Vec<i64>, NoMemory>
     ensures { IfOk result (λ out. out.items ≡ map (clamped lo.now hi.now) numbers.now) }
 {
-    Ok(numbers
-        .iter()
-        .map(|z| (*z).max(*lo).min(*hi))
-        .collect(alloc)?)
+    Ok(
+        numbers
+            .iter()
+            .map(|z| (*z).max(*lo).min(*hi))
+            .collect(alloc)?,
+    )
 }
 
 /// Whether the limits are in order, and from -2^31 to 2^31.

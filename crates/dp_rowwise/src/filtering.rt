@@ -28,7 +28,12 @@ impl Filter {
     /// The filter of the column, from 0, by the text. `Kind` comes exactly where the domain is not `Rows`, `Metric`
     /// exactly where it is and the metric is not `Symmetric`, and `Bound` exactly where neither comes and the domain has
     /// no such column.
-    pub fn new(domain: Domain, metric: Metric, column: u32, text: Vec<u8>) -> Result<Filter, Refused>
+    pub fn new(
+        domain: Domain,
+        metric: Metric,
+        column: u32,
+        text: Vec<u8>,
+    ) -> Result<Filter, Refused>
         requires { Fits domain }
         ensures { Makes ⟦<Filter as Transformation>⟧.mapping result (filter_from column text.items domain metric) }
     {
@@ -80,15 +85,8 @@ impl Transformation for Filter {
     }
 
     fn apply(&self, alloc: Global, v: &Value) -> Result<Value, NoMemory> {
-        let Value::Rows(rows) = v else {
-            unreachable!()
-        };
-        let kept = matching(
-            alloc,
-            rows.as_slice(),
-            self.column,
-            self.text.as_slice(),
-        )?;
+        let Value::Rows(rows) = v else { unreachable!() };
+        let kept = matching(alloc, rows.as_slice(), self.column, self.text.as_slice())?;
         Ok(Value::Rows(Rows::from_vec(kept)))
     }
 
@@ -96,7 +94,12 @@ impl Transformation for Filter {
 }
 
 /// The records whose cell in the column is the text.
-fn matching(alloc: Global, rows: &[Record], column: u32, text: &[u8]) -> Result<Vec<Record>, NoMemory>
+fn matching(
+    alloc: Global,
+    rows: &[Record],
+    column: u32,
+    text: &[u8],
+) -> Result<Vec<Record>, NoMemory>
     requires { All (λ cells. column < length cells) rows.now }
     ensures { IfOk result (λ kept. kept.items ≡ filter (λ cells. text_eq (cell column cells) text.now) rows.now) }
 {

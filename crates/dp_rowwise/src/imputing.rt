@@ -90,10 +90,12 @@ impl Transformation for Impute {
 fn impute_all(alloc: Global, numbers: &[Option<i64>], value: &i64) -> Result<Vec<i64>, NoMemory>
     ensures { IfOk result (λ imputed. imputed.items ≡ map (λ x. unwrap_or x value.now) numbers.now) }
 {
-    Ok(numbers
-        .iter()
-        .map(|number| (*number).unwrap_or(*value))
-        .collect(alloc)?)
+    Ok(
+        numbers
+            .iter()
+            .map(|number| (*number).unwrap_or(*value))
+            .collect(alloc)?,
+    )
 }
 
 /// Whether the number is from `lo` to `hi`.

@@ -21,3 +21,6 @@ pub use dropping::DropNone;
 pub use filtering::Filter;
 pub use imputing::Impute;
 pub use selecting::Select;
+
+#[cfg(test)]
+mod tests;

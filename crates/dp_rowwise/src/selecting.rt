@@ -73,9 +73,7 @@ impl Transformation for Select {
     }
 
     fn apply(&self, alloc: Global, v: &Value) -> Result<Value, NoMemory> {
-        let Value::Rows(rows) = v else {
-            unreachable!()
-        };
+        let Value::Rows(rows) = v else { unreachable!() };
         let texts = cells_of(alloc, rows.as_slice(), self.column)?;
         Ok(Value::Texts(Texts::from_vec(texts)))
     }

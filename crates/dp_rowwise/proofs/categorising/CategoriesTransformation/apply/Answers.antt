@@ -9,5 +9,5 @@ pub returns-clause-within : goal.returns-clause-within
 returns-clause-within c =
     let t = c.args.self.now in
     let same : value.Cats c.from_vec.result ≡ categories_value t.table c.args.v.now =
-          rw c.in-Texts.is (ap value.Cats (c.from_vec.ensures ∙ c.in_ok-numbers.ensures ∙ ap (map (place_in t.table)) c.as_slice.ensures)) in
+    rw c.in-Texts.is (ap value.Cats (c.from_vec.ensures ∙ c.in_ok-numbers.ensures ∙ ap (map (place_in t.table)) c.as_slice.ensures)) in
     lands_at (categories_mapping t.table) (categories_law t.table t.fits) c.args.v.now (value.Cats c.from_vec.result) same c.requires

@@ -10,5 +10,5 @@ pub returns-clause-within : goal.returns-clause-within
 returns-clause-within c =
     let t = c.args.self.now in
     let same : value.Ints c.from_vec.result ≡ drop_none_value c.args.v.now =
-          rw c.in-OptInts.is (ap value.Ints (c.from_vec.ensures ∙ c.in_ok-present.ensures ∙ ap (filter_map (λ x. x)) c.as_slice.ensures)) in
+    rw c.in-OptInts.is (ap value.Ints (c.from_vec.ensures ∙ c.in_ok-present.ensures ∙ ap (filter_map (λ x. x)) c.as_slice.ensures)) in
     lands_at (drop_none_mapping t.lo t.hi) (drop_none_law t.lo t.hi t.fits) c.args.v.now (value.Ints c.from_vec.result) same c.requires

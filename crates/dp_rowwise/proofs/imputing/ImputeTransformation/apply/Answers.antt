@@ -10,5 +10,5 @@ pub returns-clause-within : goal.returns-clause-within
 returns-clause-within c =
     let t = c.args.self.now in
     let same : value.Ints c.from_vec.result ≡ impute_value t.value c.args.v.now =
-          rw c.in-OptInts.is (ap value.Ints (c.from_vec.ensures ∙ c.in_ok-imputed.ensures ∙ ap (map (λ x. unwrap_or x t.value)) c.as_slice.ensures)) in
+    rw c.in-OptInts.is (ap value.Ints (c.from_vec.ensures ∙ c.in_ok-imputed.ensures ∙ ap (map (λ x. unwrap_or x t.value)) c.as_slice.ensures)) in
     lands_at (impute_mapping t.value t.lo t.hi) (impute_law t.value t.lo t.hi t.fits t.between) c.args.v.now (value.Ints c.from_vec.result) same c.requires
