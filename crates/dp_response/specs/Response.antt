@@ -44,8 +44,8 @@ response n p q u low high = record {
   shape = draw_bound n low high ∷ [];
   function = respond low high;
   pieces = 1;
-  privacy_map = λ d. capped (u * min d 1)
-  }
+  privacy_map = λ d. capped (u * min d 1);
+}
 
 -- the powers are there, and the bound of the draw is at most 2 ^ 62
 abbrev pub response_with : ℕ → ℕ → ℕ → ℕ → Option (ℕ × ℕ) → Result Mechanism Refused

@@ -164,5 +164,5 @@ response_law n p q u low high input ratio positive below lows highs bounded = re
   few_pieces = omega arith;
   whole = λ v draws has f. response-whole n low high v draws has;
   limited = λ d k map_is. capped-le (u * min d 1) k map_is;
-  private = λ d k v w answer map_is has_v has_w near. private-at n p q u low high d k v w answer ratio.1 positive below lows highs (capped-same (u * min d 1) k map_is) has_v has_w near
-  }
+  private = λ d k v w answer map_is has_v has_w near. private-at n p q u low high d k v w answer ratio.1 positive below lows highs (capped-same (u * min d 1) k map_is) has_v has_w near;
+}
