@@ -22,14 +22,27 @@ abbrev pub bins_value : List ℤ → Value → Value
 bins_value edges (value.Ints xs) = value.Cats (map (bin edges) xs)
 bins_value edges v = v
 
--- each edge is below those after it
+-- each number is below the next, the first one above an edge
+abbrev pub rises_from : ℤ → List ℤ → Bool
+rises_from edge [] = true
+rises_from edge (next ∷ edges) = int_lt edge next && rises_from next edges
+
+-- each edge is below the next
 abbrev pub is_rising : List ℤ → Bool
 is_rising [] = true
-is_rising (edge ∷ edges) = list_all (int_lt edge) edges && is_rising edges
+is_rising (edge ∷ edges) = rises_from edge edges
+
+-- the number is from -2 ^ 31 to 2 ^ 31
+abbrev pub is_limited : ℤ → Bool
+is_limited edge = int_le (neg_ℤ (pos (2 ^ 31))) edge && int_le edge (pos (2 ^ 31))
+
+-- 1 to 1,023
+abbrev pub few_edges : ℕ → Bool
+few_edges n = nat_le 1 n && nat_le n 1023
 
 -- 1 to 1,023 strictly rising edges, each from -2 ^ 31 to 2 ^ 31
 abbrev pub are_edges : List ℤ → Bool
-are_edges edges = nat_le 1 (length edges) && nat_le (length edges) 1023 && list_all (λ edge. int_le (neg_ℤ (pos (2 ^ 31))) edge && int_le edge (pos (2 ^ 31))) edges && is_rising edges
+are_edges edges = few_edges (length edges) && list_all is_limited edges && is_rising edges
 
 -- from numbers to one more bin than there are edges, of the same size by the same metric
 abbrev pub bins_mapping : List ℤ → ℤ → ℤ → Option ℕ → Mapping

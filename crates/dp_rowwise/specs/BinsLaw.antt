@@ -19,7 +19,6 @@ use Rattle.dp_law.specs.Making.{list_metric}
 use Rattle.dp_law.specs.Mapping.{IsStable}
 use Rattle.dp_law.proofs.Caps.{capped-same, capped-le}
 use Rattle.std.specs.Prelude.{int_le}
-use Rattle.std.specs.Prelude.{int_le}
 use Rattle.dp_rowwise.specs.Bins.{bin, bins_value, bins_mapping}
 
 All-each : {X : Type 0} (P : X → Type 0) (xs : List X) → ((x : X) → P x) → All P xs

@@ -2,6 +2,8 @@ pub mod Bins
 pub mod BinsLaw
 pub mod Cast
 pub mod CastLaw
+pub mod Categories
+pub mod CategoriesLaw
 pub mod Clamp
 pub mod ClampLaw
 pub mod DropNone

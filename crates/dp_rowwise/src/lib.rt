@@ -2,6 +2,22 @@
 //! distance itself.
 #![tactic(auto)]
 
+mod binning;
+mod casting;
+mod categorising;
 mod clamping;
+mod copying;
+mod dropping;
+mod filtering;
+mod imputing;
+mod selecting;
+mod tables;
 
+pub use binning::Bins;
+pub use casting::Cast;
+pub use categorising::Categories;
 pub use clamping::Clamp;
+pub use dropping::DropNone;
+pub use filtering::Filter;
+pub use imputing::Impute;
+pub use selecting::Select;

@@ -1,0 +1,47 @@
+-- Categories are stable.
+use Rattle.std.proofs.Common.{◌≡◌, ℕ, ◌+◌, ◌≤◌, ◌<◌, Bool, true, false, List, [], ◌∷◌, length, Option, Some, None, arith}
+use Rattle.std.specs.Prelude.{map, All, nat_eq, not}
+use Rattle.std.specs.List.{position_or_len}
+use Rattle.std.proofs.lemmas.List.{length-map}
+use Rattle.std.proofs.lemmas.List.Sums.{prefix_len-le-length}
+use Rattle.std.proofs.lemmas.List.Elements.{All-map, All-nil, All-cons}
+use Rattle.dp_domain.specs.declared.domains.Domain.TheVariants as domain
+use Rattle.dp_domain.specs.declared.metrics.Metric.TheVariants as metrics
+use Rattle.dp_domain.specs.declared.values.Value.{Value}
+use Rattle.dp_domain.specs.declared.values.Value.TheVariants as value
+use Rattle.dp_domain.specs.Distance.{diff, text_eq}
+use Rattle.dp_domain.specs.Domains.{Fits, Has}
+use Rattle.dp_domain.specs.Metrics.{Within}
+use Rattle.dp_domain.proofs.Distance.{diff-map}
+use Rattle.dp_domain.proofs.Equality.{nat_eq-decides, text_eq-decides}
+use Rattle.dp_law.specs.Mapping.{IsStable}
+use Rattle.dp_law.proofs.Caps.{capped-same, capped-le}
+use Rattle.dp_rowwise.specs.Categories.{place_in, categories_value, categories_mapping}
+
+place_in-le : (texts : List (List ℕ)) (text : List ℕ) → place_in texts text ≤ length texts
+place_in-le texts text = prefix_len-le-length (λ other. not (text_eq text other)) texts
+
+All-each : {X : Type 0} (P : X → Type 0) (xs : List X) → ((x : X) → P x) → All P xs
+All-each P [] each = All-nil P
+All-each P (x ∷ xs) each = All-cons P x xs (each x) (All-each P xs each)
+
+categories_lands : (texts : List (List ℕ)) (v : Value) → Has domain.Texts v → Has (domain.Cats (length texts + 1) None) (categories_value texts v)
+categories_lands texts (value.Texts found) has =
+    (rw length-map has, All-map (λ category. category < length texts + 1) (place_in texts) found (All-each (λ text. place_in texts text < length texts + 1) found (λ text. omega (arith, place_in-le texts text))))
+categories_lands texts v has = absurd has
+
+categories_stable : (texts : List (List ℕ)) (d e : ℕ) (v w : Value) → d ≡ e → Has domain.Texts v → Has domain.Texts w
+    → Within metrics.Symmetric d v w → Within metrics.Symmetric e (categories_value texts v) (categories_value texts w)
+categories_stable texts d e (value.Texts xs) (value.Texts ys) same has_v has_w near =
+    omega (arith, near, diff-map text_eq text_eq-decides nat_eq nat_eq-decides (place_in texts) xs ys)
+categories_stable texts d e (value.Texts xs) w same has_v has_w near = absurd has_w
+categories_stable texts d e v w same has_v has_w near = absurd has_v
+
+pub categories_law : (texts : List (List ℕ)) → Fits (domain.Cats (length texts + 1) None) → IsStable (categories_mapping texts)
+categories_law texts fits = record {
+  input_fits = tt;
+  output_fits = fits;
+  lands = categories_lands texts;
+  limited = capped-le;
+  stable = λ d e v w map_is. categories_stable texts d e v w (capped-same d e map_is)
+  }

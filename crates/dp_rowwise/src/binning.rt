@@ -1,0 +1,172 @@
+ghost use Rattle.std.specs.Prelude.{◌≡◌, ◌≤◌, ◌+◌, ◌↔◌, true, map, length, IfOk, IsTrue, int_lt};
+ghost use Rattle.std.specs.List.{list_all};
+ghost use Rattle.dp_domain.specs.Domains.{Fits};
+ghost use Rattle.dp_domain.specs.declared.domains.Domain.TheVariants as domain;
+ghost use Rattle.dp_domain.proofs.Limits.{Fits-prop};
+ghost use Rattle.dp_law.specs.Making.{Makes};
+ghost use Rattle.dp_rowwise.specs.Bins.{bin, few_edges, is_limited, is_rising, rises_from, are_edges, bins_from};
+
+use dp_count::NoMemory;
+use dp_domain::{Cats, Domain, Metric, Value};
+use dp_law::{Refused, Transformation, is_list_metric, list_metric};
+use dp_num::Past;
+use std::alloc::Global;
+
+/// The greatest number of edges.
+const MOST_EDGES: usize = 1_023;
+
+/// The greatest edge.
+const MOST: i64 = 2_147_483_648;
+
+/// Gives for each number how many edges are at most it. It takes `Ints` without a size by `Symmetric` or with one by
+/// `ChangeOne`, and gives `Cats` of the same size by the same metric. The work for each number is logarithmic in the
+/// edges.
+#[derive(Debug, Drop)]
+pub struct Bins {
+    edges: Vec<i64>,
+    lo: i64,
+    hi: i64,
+    size: Option<u32>,
+    ghost input_fits: { Fits (domain.Ints lo hi size) } by { Fits-prop (domain.Ints lo hi size) },
+    ghost output_fits: { Fits (domain.Cats (length edges.items + 1) size) } by { Fits-prop (domain.Cats (length edges.items + 1) size) },
+    ghost rising: { is_rising edges.items ≡ true },
+}
+
+impl Bins {
+    /// The bins between the edges. `Kind` comes exactly where the domain is not `Ints`, `Metric` exactly where it is and
+    /// the metric is not that of its size, and `Bound` exactly where neither comes and the edges are not 1 to 1,023
+    /// strictly rising numbers from -2^31 to 2^31.
+    pub fn new(domain: Domain, metric: Metric, edges: Vec<i64>) -> Result<Bins, Refused>
+        requires { Fits domain }
+        ensures { Makes ⟦<Bins as Transformation>⟧.mapping result (bins_from edges.items domain metric) }
+    {
+        let Domain::Ints { lo, hi, size } = domain else {
+            return Err(Refused::Kind);
+        };
+        if !is_list_metric(size, metric) {
+            return Err(Refused::Metric);
+        }
+        if !are_edges(edges.as_slice()) {
+            return Err(Refused::Bound);
+        }
+        Ok(Bins {
+            edges,
+            lo,
+            hi,
+            size,
+        })
+    }
+}
+
+impl Transformation for Bins {
+    ghost use Rattle.dp_rowwise.specs.Bins.{bins_mapping};
+    ghost use Rattle.dp_rowwise.specs.BinsLaw.{bins_law};
+
+    ghost mapping = { λ t. bins_mapping t.edges.items t.lo t.hi t.size };
+
+    fn in_domain(&self) -> Domain {
+        Domain::Ints {
+            lo: self.lo,
+            hi: self.hi,
+            size: self.size,
+        }
+    }
+
+    fn in_metric(&self) -> Metric {
+        list_metric(self.size)
+    }
+
+    fn out_domain(&self) -> Domain {
+        Domain::Cats {
+            n: self.edges.len() as u32 + 1,
+            size: self.size,
+        }
+    }
+
+    fn out_metric(&self) -> Metric {
+        list_metric(self.size)
+    }
+
+    fn map(&self, d: u64) -> Result<u64, Past> {
+        Ok(d)
+    }
+
+    fn apply(&self, alloc: Global, v: &Value) -> Result<Value, NoMemory> {
+        let Value::Ints(numbers) = v else {
+            unreachable!()
+        };
+        let bins = bin_all(alloc, self.edges.as_slice(), numbers.as_slice())?;
+        Ok(Value::Cats(Cats::from_vec(bins)))
+    }
+
+    ghost law = { λ t. bins_law t.edges.items t.lo t.hi t.size t.input_fits t.output_fits };
+}
+
+/// The bin of each number.
+fn bin_all(alloc: Global, edges: &[i64], numbers: &[i64]) -> Result<Vec<u32>, NoMemory>
+    requires few { length edges.now ≤ 1023 }
+    requires rising { is_rising edges.now ≡ true }
+    ensures { IfOk result (λ bins. bins.items ≡ map (bin edges.now) numbers.now) }
+{
+    Ok(numbers
+        .iter()
+        .map(|number| bin(edges, number))
+        .collect(alloc)?)
+}
+
+/// How many edges are at most the number.
+fn bin(edges: &[i64], number: &i64) -> u32
+    requires few { length edges.now ≤ 1023 }
+    requires rising { is_rising edges.now ≡ true }
+    ensures { result ≡ bin edges.now number.now }
+{
+    edges.partition_point(|edge| *edge <= *number) as u32
+}
+
+/// Whether there are 1 to 1,023 strictly rising edges, each from -2^31 to 2^31.
+fn are_edges(edges: &[i64]) -> bool
+    ensures { result ≡ are_edges edges.now }
+{
+    few_edges(edges.len()) && all_limited(edges) && is_rising(edges)
+}
+
+/// Whether the number of edges is from 1 to 1,023.
+fn few_edges(len: usize) -> bool
+    ensures { result ≡ few_edges len }
+{
+    1 <= len && len <= MOST_EDGES
+}
+
+/// Whether each edge is from -2^31 to 2^31.
+fn all_limited(edges: &[i64]) -> bool
+    ensures { result ≡ list_all is_limited edges.now }
+{
+    edges.iter().all(|edge| is_limited(edge))
+}
+
+/// Whether the number is from -2^31 to 2^31.
+fn is_limited(edge: &i64) -> bool
+    ensures { result ≡ is_limited edge.now }
+{
+    -MOST <= *edge && *edge <= MOST
+}
+
+/// Whether each edge is below the next.
+fn is_rising(edges: &[i64]) -> bool
+    ensures { result ≡ is_rising edges.now }
+{
+    let Some((first, rest)) = edges.split_first() else {
+        return true;
+    };
+    rises_from(first, rest)
+}
+
+/// Whether each number is below the next, the first one above the edge.
+fn rises_from(edge: &i64, edges: &[i64]) -> bool
+    ensures { result ≡ rises_from edge.now edges.now }
+{
+    match edges {
+        [] => true,
+        [next, rest @ ..] => *edge < *next && rises_from(next, rest),
+    }
+}
