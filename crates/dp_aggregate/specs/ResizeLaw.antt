@@ -18,7 +18,7 @@ use Rattle.dp_domain.specs.Distance.{diff}
 use Rattle.dp_domain.specs.Domains.{Fits, Has, IsBetween}
 use Rattle.dp_domain.specs.Metrics.{Within}
 use Rattle.dp_domain.proofs.Equality.{int_eq-decides}
-use Rattle.dp_domain.proofs.Distance.{diff-symmetric, diff-triangle, diff-order, split}
+use Rattle.dp_domain.proofs.Distance.{diff-symmetric, diff-triangle, diff-order, split, split-distance}
 use Rattle.dp_law.specs.Mapping.{IsStable}
 use Rattle.dp_law.proofs.Caps.{capped-same, capped-le}
 use Rattle.dp_aggregate.specs.Exchange.{exchange}
@@ -97,7 +97,7 @@ pub resized-apart : (size : ℕ) (fill : ℤ) (xs ys : List ℤ) → diff int_eq
 resized-apart size fill xs ys =
     let s = split int_eq int_eq-decides xs ys in
     let apart = firsts-apart size fill xs ys s.common s.left s.right s.one s.other in
-    let distance = s.distance in
+    let distance = split-distance int_eq int_eq-decides xs ys in
     rw (resized-is size fill xs, resized-is size fill ys) (omega arith)
 
 resize-parts : (size : ℕ) (a b : Bool) → IsTrue (nat_le 1 size && nat_le size (2 ^ 20) && a && b) → (1 ≤ size) × (size ≤ 2 ^ 20) × (a ≡ true) × (b ≡ true)

@@ -17,3 +17,6 @@ pub use quantising::Quantise;
 pub use reaching::AtLeast;
 pub use resizing::Resize;
 pub use summing::Sum;
+
+#[cfg(test)]
+mod tests;
