@@ -1,2 +1,3 @@
 pub mod EdgeTests
+pub mod Examples
 pub mod Frequency

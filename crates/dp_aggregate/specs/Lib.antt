@@ -3,10 +3,14 @@ pub mod AtLeastLaw
 pub mod Count
 pub mod CountLaw
 pub mod Edges
+pub mod Exchange
 pub mod Histogram
 pub mod HistogramLaw
 pub mod OneNumber
 pub mod Quantise
 pub mod QuantiseLaw
+pub mod Resize
+pub mod ResizeLaw
+pub mod RisingOrder
 pub mod Sum
 pub mod SumLaw

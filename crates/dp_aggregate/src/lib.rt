@@ -7,6 +7,7 @@ mod frequencies;
 mod one_number;
 mod quantising;
 mod reaching;
+mod resizing;
 mod rising;
 mod summing;
 
@@ -14,4 +15,8 @@ pub use counting::Count;
 pub use frequencies::Histogram;
 pub use quantising::Quantise;
 pub use reaching::AtLeast;
+pub use resizing::Resize;
 pub use summing::Sum;
+
+#[cfg(test)]
+mod tests;
