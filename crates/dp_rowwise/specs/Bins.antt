@@ -1,11 +1,10 @@
 -- Putting numbers into bins.
-use Rattle.std.specs.Prelude.{ℕ, ℤ, pos, neg_ℤ, ◌+◌, ◌^◌, ◌&&◌, Bool, true, List, [], ◌∷◌, Option, Result, Ok, Err, map, length, count_by, int_le, int_lt, nat_le}
+use Rattle.std.specs.Prelude.{ℕ, ℤ, pos, neg_ℤ, ◌+◌, ◌^◌, ◌&&◌, Bool, true, List, [], ◌∷◌, Option, Result, Err, map, length, count_by, int_le, int_lt, nat_le}
 use Rattle.std.specs.List.{list_all}
 use Rattle.dp_num.specs.Limits.{capped}
 use Rattle.dp_domain.specs.declared.domains.Domain.{Domain}
 use Rattle.dp_domain.specs.declared.domains.Domain.TheVariants as domain
 use Rattle.dp_domain.specs.declared.metrics.Metric.{Metric}
-use Rattle.dp_domain.specs.declared.metrics.Metric.TheVariants as metrics
 use Rattle.dp_domain.specs.declared.values.Value.{Value}
 use Rattle.dp_domain.specs.declared.values.Value.TheVariants as value
 use Rattle.dp_law.specs.declared.refusals.Refused.{Refused}

@@ -1,5 +1,5 @@
 -- Casting texts to numbers.
-use Rattle.std.specs.Prelude.{ℕ, ℤ, pos, neg_ℤ, ◌^◌, ◌==◌, true, List, [], ◌∷◌, Option, Some, None, Result, Ok, Err, map, nat_le, option_map, option_and_then, if◌then◌else◌}
+use Rattle.std.specs.Prelude.{ℕ, ℤ, pos, neg_ℤ, ◌^◌, ◌==◌, true, List, [], ◌∷◌, Option, Some, None, Result, Err, map, nat_le, option_map, option_and_then, if◌then◌else◌}
 use Rattle.dp_count.specs.Digits.{decimal}
 use Rattle.dp_num.specs.Limits.{capped}
 use Rattle.dp_domain.specs.declared.domains.Domain.{Domain}

@@ -1,5 +1,5 @@
 -- Texts as categories.
-use Rattle.std.specs.Prelude.{ℕ, ◌+◌, ◌&&◌, Bool, true, List, [], ◌∷◌, None, Result, Ok, Err, map, length, nat_le, not}
+use Rattle.std.specs.Prelude.{ℕ, ◌+◌, ◌&&◌, Bool, true, List, [], ◌∷◌, None, Result, Err, map, length, nat_le, not}
 use Rattle.std.specs.List.{list_any, position_or_len}
 use Rattle.dp_domain.specs.Distance.{text_eq}
 use Rattle.dp_num.specs.Limits.{capped}

@@ -1,5 +1,5 @@
 -- Clamping the numbers of a list.
-use Rattle.std.specs.Prelude.{ℕ, ℤ, pos, neg_ℤ, ◌^◌, ◌&&◌, Bool, Option, Result, Ok, Err, map, int_le}
+use Rattle.std.specs.Prelude.{ℕ, ℤ, pos, neg_ℤ, ◌^◌, ◌&&◌, Bool, Option, Result, Err, map, int_le}
 use Rattle.std.specs.Int.{int_min, int_max}
 use Rattle.dp_num.specs.Limits.{capped}
 use Rattle.dp_domain.specs.declared.domains.Domain.{Domain}

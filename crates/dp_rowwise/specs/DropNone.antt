@@ -1,5 +1,5 @@
 -- Dropping the missing numbers.
-use Rattle.std.specs.Prelude.{ℤ, true, None, Result, Ok, Err, filter_map}
+use Rattle.std.specs.Prelude.{ℤ, true, None, Result, Err, filter_map}
 use Rattle.dp_num.specs.Limits.{capped}
 use Rattle.dp_domain.specs.declared.domains.Domain.{Domain}
 use Rattle.dp_domain.specs.declared.domains.Domain.TheVariants as domain

@@ -1,5 +1,5 @@
 -- Filtering records by the text in a column.
-use Rattle.std.specs.Prelude.{ℕ, List, [], Result, Ok, Err, filter, nat_lt, slice_index_or}
+use Rattle.std.specs.Prelude.{ℕ, List, [], Result, Err, filter, nat_lt, slice_index_or}
 use Rattle.dp_domain.specs.Distance.{text_eq}
 use Rattle.dp_num.specs.Limits.{capped}
 use Rattle.dp_domain.specs.declared.domains.Domain.{Domain}

@@ -1,21 +1,16 @@
 -- Filtering is stable.
-use Rattle.std.proofs.Common.{◌≡◌, ℕ, ℤ, pos, neg_ℤ, ◌+◌, ◌^◌, ◌≤◌, ◌<◌, Bool, true, false, cond, List, [], ◌∷◌, length, Option, Some, None, refl, sym, ◌∙◌, ap, subst, arith}
-use Rattle.std.specs.Prelude.{map, filter, filter_map, count_by, unwrap_or, All, IfSome, nat_eq, ◌≤ℤ◌, ◌*◌}
-use Rattle.std.specs.Ordering.{int_eq}
-use Rattle.std.proofs.lemmas.Int.{ints, clamps}
-use Rattle.std.proofs.lemmas.List.{length-map}
+use Rattle.std.proofs.Common.{◌≡◌, ℕ, List, length, arith}
 use Rattle.std.proofs.lemmas.List.Sums.{length-filter, count_by-le-length}
-use Rattle.std.proofs.lemmas.List.Elements.{All-map, All-weaker, All-filter, All-nil, All-cons, All-head, All-tail}
+use Rattle.std.proofs.lemmas.List.Elements.{All-filter}
 use Rattle.dp_domain.specs.declared.domains.Domain.TheVariants as domain
 use Rattle.dp_domain.specs.declared.metrics.Metric.TheVariants as metrics
 use Rattle.dp_domain.specs.declared.values.Value.{Value}
 use Rattle.dp_domain.specs.declared.values.Value.TheVariants as value
-use Rattle.dp_domain.specs.Distance.{diff, text_eq, record_eq, opt_int_eq}
-use Rattle.dp_domain.specs.Domains.{Fits, Has, HasSize, IsBetween}
+use Rattle.dp_domain.specs.Distance.{text_eq, record_eq}
+use Rattle.dp_domain.specs.Domains.{Fits, Has}
 use Rattle.dp_domain.specs.Metrics.{Within}
-use Rattle.dp_domain.proofs.Distance.{diff-filter_map, diff-map, diff-filter}
-use Rattle.dp_domain.proofs.Equality.{nat_eq-decides, int_eq-decides, text_eq-decides, record_eq-decides, opt_int_eq-decides}
-use Rattle.dp_law.specs.Making.{list_metric}
+use Rattle.dp_domain.proofs.Distance.{diff-filter}
+use Rattle.dp_domain.proofs.Equality.{record_eq-decides}
 use Rattle.dp_law.specs.Mapping.{IsStable}
 use Rattle.dp_law.proofs.Caps.{capped-same, capped-le}
 use Rattle.dp_rowwise.specs.Filter.{cell, filter_value, filter_mapping}

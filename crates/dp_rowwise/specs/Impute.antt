@@ -1,5 +1,5 @@
 -- Imputing a number for the missing ones.
-use Rattle.std.specs.Prelude.{ℤ, ◌&&◌, Bool, None, Result, Ok, Err, map, int_le, unwrap_or}
+use Rattle.std.specs.Prelude.{ℤ, ◌&&◌, Bool, None, Result, Err, map, int_le, unwrap_or}
 use Rattle.dp_num.specs.Limits.{capped}
 use Rattle.dp_domain.specs.declared.domains.Domain.{Domain}
 use Rattle.dp_domain.specs.declared.domains.Domain.TheVariants as domain

@@ -1,5 +1,5 @@
 -- Selecting a column of records.
-use Rattle.std.specs.Prelude.{ℕ, Result, Ok, Err, map, nat_lt}
+use Rattle.std.specs.Prelude.{ℕ, Result, Err, map, nat_lt}
 use Rattle.dp_num.specs.Limits.{capped}
 use Rattle.dp_domain.specs.declared.domains.Domain.{Domain}
 use Rattle.dp_domain.specs.declared.domains.Domain.TheVariants as domain

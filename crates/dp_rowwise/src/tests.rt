@@ -41,11 +41,12 @@ fn texts_of(alloc: Global, cells: &[&[u8]]) -> Result<Texts, NoMemory> {
     Ok(Texts::from_vec(texts))
 }
 
-fn rows_of(alloc: Global, records: &[&[&[u8]]]) -> Result<Rows, NoMemory> {
+/// The records F,3,x and M,, and F,12x, of three cells each.
+fn three_records(alloc: Global) -> Result<Rows, NoMemory> {
     let mut rows: Vec<Record> = Vec::new(alloc);
-    for cells in records {
-        rows.push(texts_of(alloc, cells)?)?;
-    }
+    rows.push(texts_of(alloc, &[b"F".as_slice(), b"3".as_slice(), b"x".as_slice()])?)?;
+    rows.push(texts_of(alloc, &[b"M".as_slice(), b"".as_slice(), b"".as_slice()])?)?;
+    rows.push(texts_of(alloc, &[b"F".as_slice(), b"12x".as_slice(), b"".as_slice()])?)?;
     Ok(Rows::from_vec(rows))
 }
 
@@ -339,14 +340,7 @@ fn categories_are_refused_by_their_row(rt: HostRuntime) -> Result<(), NoMemory> 
 
 #[test]
 fn a_filter_keeps_records(rt: HostRuntime) -> Result<(), Fault> {
-    let value = Value::Rows(rows_of(
-        rt.alloc(),
-        &[
-            [b"F".as_slice(), b"3".as_slice(), b"x".as_slice()].as_slice(),
-            [b"M".as_slice(), b"".as_slice(), b"".as_slice()].as_slice(),
-            [b"F".as_slice(), b"12x".as_slice(), b"".as_slice()].as_slice(),
-        ],
-    )?);
+    let value = Value::Rows(three_records(rt.alloc())?);
     let kept = filtered(rt.alloc(), &value)?;
     let texts = selected(rt.alloc(), &kept)?;
     assert!(rt; is_pair(&texts, b"3", b"12x"));

@@ -1,4 +1,4 @@
-use Rattle.std.proofs.Common.{◌≡◌, map, ap, sym, ◌∙◌, subst}
+use Rattle.std.proofs.Common.{◌≡◌, map, ap, ◌∙◌}
 use Rattle.dp_domain.specs.declared.values.Value.TheVariants as value
 use Rattle.dp_law.proofs.Landing.{lands_at}
 use Rattle.dp_rowwise.specs.Clamp.{clamp_mapping, clamp_value, clamped}

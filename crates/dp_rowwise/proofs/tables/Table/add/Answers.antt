@@ -1,4 +1,4 @@
-use Rattle.std.proofs.Common.{◌≡◌, sym, ◌∙◌, ap}
+use Rattle.std.proofs.Common.{sym, ◌∙◌, ap}
 use Rattle.std.specs.Prelude.{not}
 use Rattle.dp_domain.specs.Distance.{text_eq}
 use Rattle.dp_rowwise.proofs.Places.{list_any-map}

@@ -1,4 +1,4 @@
-use Rattle.std.proofs.Common.{◌≡◌, sym, ◌∙◌}
+use Rattle.std.proofs.Common.{◌∙◌}
 use Rattle.dp_rowwise.proofs.Places.{place_in-found, place_in-missing}
 use Rattle.dp_rowwise.proofs.tables.Table.number.Goals as goal
 
