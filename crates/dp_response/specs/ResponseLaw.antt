@@ -1,6 +1,6 @@
 -- Randomised response is private.
-use Rattle.std.proofs.Common.{◌≡◌, ℕ, zero, suc, ◌+◌, ◌-◌, ◌*◌, ◌/◌, ◌^◌, ◌≤◌, ◌<◌, Bool, true, false, cond, ◌&&◌, List, [], ◌∷◌, Option, Some, min, refl, sym, ◌∙◌, ap, subst, arith, eqb, leb, ltb, ◌⊎◌, inl, inr, length}
-use Rattle.std.proofs.Math.Nat.{mul-le-mul_left, mul-le-mul_right, mul-le-mul, div-mul-le_self, lt-div-mul-add}
+use Rattle.std.proofs.Common.{◌≡◌, ℕ, suc, ◌+◌, ◌-◌, ◌*◌, ◌/◌, ◌^◌, ◌≤◌, ◌<◌, Bool, true, false, cond, ◌&&◌, List, [], ◌∷◌, min, refl, sym, ◌∙◌, subst, arith, eqb, leb, ltb, ◌⊎◌, inl, inr, length}
+use Rattle.std.proofs.Math.Nat.{mul-le-mul_left, mul-le-mul_right, div-mul-le_self, lt-div-mul-add}
 use Rattle.std.proofs.Math.Bool.{and-false}
 use Rattle.std.proofs.lemmas.Bool.Decides.{nat_tests}
 use Rattle.std.proofs.lemmas.List.Elements.{All-cons, All-nil}
@@ -8,7 +8,6 @@ use Rattle.dp_count.specs.DrawLists.{IsDrawList}
 use Rattle.dp_count.specs.Ratios.{KeepsRatio}
 use Rattle.dp_count.proofs.Counting.{count-interval, count-never}
 use Rattle.dp_count.proofs.Ratios.{ratio-same, ratio-more}
-use Rattle.dp_num.specs.Limits.{capped}
 use Rattle.dp_domain.specs.declared.domains.Domain.TheVariants as domain
 use Rattle.dp_domain.specs.declared.metrics.Metric.TheVariants as metrics
 use Rattle.dp_domain.specs.declared.values.Value.{Value}
