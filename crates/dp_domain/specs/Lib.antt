@@ -1,3 +1,5 @@
 pub mod Distance
+pub mod DistanceLaws
 pub mod Domains
 pub mod Metrics
+pub mod Sums

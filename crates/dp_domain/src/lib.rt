@@ -5,10 +5,12 @@
 
 mod copies;
 mod domains;
+pub mod laws;
 mod lists;
 mod metrics;
 mod values;
 
+pub use copies::Duplicate;
 pub use domains::Domain;
 pub use lists::{Cats, Cells, Ints, Items, OptInts, Record, Rows, Text, Texts};
 pub use metrics::Metric;
