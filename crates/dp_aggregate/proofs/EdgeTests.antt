@@ -46,14 +46,16 @@ rising-from (x ∷ y ∷ ys) h = rising-more x y ys (sym (h 0 x (omega arith))) 
 pub rising-answer : (xs : List ℤ) (r : Bool) → IsAllAdjacentAnswer (λ x y b. b ≡ int_lt x y) xs r → r ≡ is_rising xs
 rising-answer xs true h = sym (rising-from xs h)
 rising-answer xs false h = elim (cases_Bool (is_rising xs)) [
-    inl t ↦ let up = rising-at xs t h.0 (h.0 + 1) (pos 0) (omega arith) h.1 in let down = h.2 (pos 0) in absurd cc
-  | inr f ↦ sym f ]
+  | inl t ↦ let up = rising-at xs t h.0 (h.0 + 1) (pos 0) (omega arith) h.1 in let down = h.2 (pos 0) in absurd cc
+  | inr f ↦ sym f
+]
 
 -- edges that a number does not reach come after those that it does
 pub rising-parted : (xs : List ℤ) → is_rising xs ≡ true → (z : ℤ) → IsPartitionedBy (λ edge. int_le edge z) xs
 rising-parted xs h z = λ i j d k l reached. elim (cases_lt i j) [
-    inl m ↦ at-most-through (get_or xs i d) (get_or xs j d) z (rising-at xs h i j d m l) reached
-  | inr m ↦ let same : j ≡ i = omega arith in subst (λ (n : ℕ). int_le (get_or xs n d) z ≡ true) same reached ]
+  | inl m ↦ at-most-through (get_or xs i d) (get_or xs j d) z (rising-at xs h i j d m l) reached
+  | inr m ↦ let same : j ≡ i = omega arith in subst (λ (n : ℕ). int_le (get_or xs n d) z ≡ true) same reached
+]
 
 -- where a test holds of the elements before a place and of none from there on, the place is how many pass
 pub count-parted : {X : Type 0} (p : X → Bool) (xs : List X) (i : ℕ) → i ≤ length xs → AllWithin (λ y. p y ≡ true) xs 0 i → AllWithin (λ y. p y ≡ false) xs i (length xs) → i ≡ count_by p xs

@@ -19,13 +19,14 @@ pub count-more : (cells : List ℤ) (xs : List ℕ) (i n : ℕ) (v : ℤ) → i 
 count-more cells xs i n v h long below counted e k l =
     let x = get_or xs i 0 in
     elim (cases_Bool (nat_eq k x)) [
-      inl t ↦
-        let same : k ≡ x = (Decides-eqb k x).0 t in
-        let cell = get_or-set_at cells x k v (pos 0) same (omega arith) in
-        let more = count_by_more_yes (nat_eq k) xs i 0 h t in
-        cell ∙ e ∙ ap (λ (c : ℕ). pos (occurrences nat_eq (take i xs) c + 1)) (sym same) ∙ ap pos (sym more)
-    | inr f ↦
-        let other : k ≡ x → ⊥ = λ same. let t = (Decides-eqb k x).1 same in absurd cc in
-        let cell = get_or-set_other cells x k v (pos 0) other in
-        let more = count_by_more_no (nat_eq k) xs i 0 h f in
-        cell ∙ counted k l ∙ ap pos (sym more) ]
+      | inl t ↦
+          let same : k ≡ x = (Decides-eqb k x).0 t in
+          let cell = get_or-set_at cells x k v (pos 0) same (omega arith) in
+          let more = count_by_more_yes (nat_eq k) xs i 0 h t in
+          cell ∙ e ∙ ap (λ (c : ℕ). pos (occurrences nat_eq (take i xs) c + 1)) (sym same) ∙ ap pos (sym more)
+      | inr f ↦
+          let other : k ≡ x → ⊥ = λ same. let t = (Decides-eqb k x).1 same in absurd cc in
+          let cell = get_or-set_other cells x k v (pos 0) other in
+          let more = count_by_more_no (nat_eq k) xs i 0 h f in
+          cell ∙ counted k l ∙ ap pos (sym more)
+    ]

@@ -26,8 +26,8 @@ at_least_mapping edges lo hi = record {
   output_domain = domain.Cat (length edges + 1);
   output_metric = metrics.Discrete;
   function = at_least_value edges;
-  stability_map = λ d. Some (min d 1)
-  }
+  stability_map = λ d. Some (min d 1);
+}
 
 -- what telling the edges is on a domain and a metric
 abbrev pub at_least_from : List ℤ → Domain → Metric → Result Mapping Refused

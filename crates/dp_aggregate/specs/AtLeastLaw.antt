@@ -31,8 +31,9 @@ same-number z w h = omega (arith, ints)
 
 at_least_stable : (edges : List ℤ) (d e : ℕ) (v w : Value) → min d 1 ≡ e → Within metrics.Absolute d v w → Within metrics.Discrete e (at_least_value edges v) (at_least_value edges w)
 at_least_stable edges d e (value.Int z) (value.Int w) map_is near = elim (cases_lt 0 d) [
-    inl far ↦ inr (omega arith)
-  | inr same ↦ inl (ap (edges_reached edges) (same-number z w (omega arith))) ]
+  | inl far ↦ inr (omega arith)
+  | inr same ↦ inl (ap (edges_reached edges) (same-number z w (omega arith)))
+]
 at_least_stable edges d e v w map_is near = absurd near
 
 map-is : (m e : ℕ) → ◌≡◌ {A = Option ℕ} (Some m) (Some e) → m ≡ e
@@ -44,5 +45,5 @@ at_least_law edges lo hi input good = record {
   output_fits = at_least_fits (2 ^ 61) edges good;
   lands = at_least_lands edges lo hi;
   limited = λ d e map_is. let same = map-is (min d 1) e map_is in omega arith;
-  stable = λ d e v w map_is has_v has_w near. at_least_stable edges d e v w (map-is (min d 1) e map_is) near
-  }
+  stable = λ d e v w map_is has_v has_w near. at_least_stable edges d e v w (map-is (min d 1) e map_is) near;
+}

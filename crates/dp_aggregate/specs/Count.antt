@@ -47,8 +47,8 @@ count_mapping lists = record {
   output_domain = domain.Int (pos 0) (pos (2 ^ 30));
   output_metric = metrics.Absolute;
   function = count_value;
-  stability_map = capped
-  }
+  stability_map = capped;
+}
 
 -- what counting is on a domain and a metric
 abbrev pub count_from : Domain → Metric → Result Mapping Refused

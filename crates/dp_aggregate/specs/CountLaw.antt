@@ -47,5 +47,5 @@ count_law lists input plain = record {
   output_fits = (omega (arith, ints), omega (arith, ints), omega (arith, ints));
   lands = count_lands lists plain;
   limited = capped-le;
-  stable = λ d e v w map_is has_v has_w near. let same = capped-same d e map_is in subst (λ (n : ℕ). Within metrics.Absolute n (count_value v) (count_value w)) same (count_stable d v w near)
-  }
+  stable = λ d e v w map_is has_v has_w near. let same = capped-same d e map_is in subst (λ (n : ℕ). Within metrics.Absolute n (count_value v) (count_value w)) same (count_stable d v w near);
+}

@@ -13,17 +13,17 @@ module _ {E : Type 0} (same : E → E → Bool) (told : (x y : E) → Decides (s
   one-replaced : (before middle : List E) (gone put : E) → diff same (before ++ (middle ++ gone ∷ [])) (before ++ put ∷ middle) ≤ 2
   one-replaced before middle gone put =
       diff-le-parts same told (before ++ (middle ++ gone ∷ [])) (before ++ put ∷ middle) (before ++ middle) (gone ∷ []) (put ∷ [])
-        (λ e.
-          let a = occurrences-append same before (middle ++ gone ∷ []) e in
-          let b = occurrences-append same middle (gone ∷ []) e in
-          let c = occurrences-append same before middle e in
-          omega arith)
-        (λ e.
-          let a = occurrences-append same before (put ∷ middle) e in
-          let b = occurrences-cons same put middle e in
-          let c = occurrences-append same before middle e in
-          let d = occurrences-cons same put [] e in
-          omega arith)
+      (λ e.
+      let a = occurrences-append same before (middle ++ gone ∷ []) e in
+      let b = occurrences-append same middle (gone ∷ []) e in
+      let c = occurrences-append same before middle e in
+      omega arith)
+      (λ e.
+      let a = occurrences-append same before (put ∷ middle) e in
+      let b = occurrences-cons same put middle e in
+      let c = occurrences-append same before middle e in
+      let d = occurrences-cons same put [] e in
+      omega arith)
 
   exchange-after : (before after : List E) (put : E) (k n : ℕ) → n ≡ length before + suc k → k < length after → diff same (take n (before ++ after)) (take n (before ++ put ∷ after)) ≤ 2
   exchange-after before after put k n e h =
@@ -35,8 +35,9 @@ module _ {E : Type 0} (same : E → E → Bool) (told : (x y : E) → Decides (s
   -- order plays no part
   pub exchange : (n : ℕ) (before after : List E) (put : E) → n ≤ length before + length after → diff same (take n (before ++ after)) (take n (before ++ put ∷ after)) ≤ 2
   exchange n before after put h = elim (cases_lt (length before) n) [
-      inl past ↦ exchange-after before after put (n - suc (length before)) n (omega arith) (omega arith)
+    | inl past ↦ exchange-after before after put (n - suc (length before)) n (omega arith) (omega arith)
     | inr within ↦
         let equal : take n (before ++ after) ≡ take n (before ++ put ∷ after) = take-append-le n before after within ∙ sym (take-append-le n before (put ∷ after) within) in
         let none = diff-order same told (take n (before ++ after)) (take n (before ++ after)) (IsPermutation-refl (take n (before ++ after))) in
-        rw (← equal) (omega arith) ]
+        rw (← equal) (omega arith)
+  ]

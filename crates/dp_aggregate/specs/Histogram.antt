@@ -41,8 +41,8 @@ histogram_mapping n size = record {
   output_domain = domain.IntVec n (pos 0) (pos (histogram_most size));
   output_metric = metrics.L1;
   function = histogram_value n;
-  stability_map = λ d. capped (histogram_factor size * d)
-  }
+  stability_map = λ d. capped (histogram_factor size * d);
+}
 
 -- what a histogram is on a domain and a metric
 abbrev pub histogram_from : Domain → Metric → Result Mapping Refused

@@ -32,7 +32,7 @@ cells-between : (n most : ℕ) (xs : List ℕ) → length xs ≤ most → All (I
 unfolding histogram
 cells-between n most xs h = λ k d l.
     let cell : get_or (map (λ category. pos (occurrences nat_eq xs category)) (range_with_len 0 n)) k d ≡ pos (occurrences nat_eq xs k) =
-          get_or-map-range_with_len (λ category. pos (occurrences nat_eq xs category)) 0 n k k d (omega (arith, length-map-range_with_len (λ category. pos (occurrences nat_eq xs category)) 0 n)) (omega arith) in
+    get_or-map-range_with_len (λ category. pos (occurrences nat_eq xs category)) 0 n k k d (omega (arith, length-map-range_with_len (λ category. pos (occurrences nat_eq xs category)) 0 n)) (omega arith) in
     let few = count_by-le-length (nat_eq k) xs in
     rw cell (omega (arith, ints), omega (arith, ints))
 
@@ -61,5 +61,5 @@ histogram_law n size input = record {
   output_fits = histogram_fits n size input;
   lands = histogram_lands n size;
   limited = λ d e map_is. capped-le (histogram_factor size * d) e map_is;
-  stable = λ d e v w map_is. histogram_stable n size d e v w (capped-same (histogram_factor size * d) e map_is)
-  }
+  stable = λ d e v w map_is. histogram_stable n size d e v w (capped-same (histogram_factor size * d) e map_is);
+}

@@ -35,8 +35,8 @@ quantise_mapping lo hi step = record {
   output_domain = domain.Int (quantised step lo) (quantised step hi);
   output_metric = metrics.Absolute;
   function = quantise_value step;
-  stability_map = λ d. capped (div_ceil d step)
-  }
+  stability_map = λ d. capped (div_ceil d step);
+}
 
 -- what quantising is on a domain and a metric
 abbrev pub quantise_from : ℕ → Domain → Metric → Result Mapping Refused

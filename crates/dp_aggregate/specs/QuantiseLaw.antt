@@ -83,5 +83,5 @@ quantise_law lo hi step input good =
       output_fits = quantise_fits lo hi step positive input;
       lands = quantise_lands lo hi step positive;
       limited = λ d e map_is. capped-le (div_ceil d step) e map_is;
-      stable = λ d e v w map_is has_v has_w near. quantise_stable step d e v w positive (capped-same (div_ceil d step) e map_is) near
+      stable = λ d e v w map_is has_v has_w near. quantise_stable step d e v w positive (capped-same (div_ceil d step) e map_is) near;
     }

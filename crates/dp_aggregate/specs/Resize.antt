@@ -43,8 +43,8 @@ resize_mapping lo hi size fill = record {
   output_domain = domain.Ints lo hi (Some size);
   output_metric = metrics.ChangeOne;
   function = resize_value size fill;
-  stability_map = capped
-  }
+  stability_map = capped;
+}
 
 -- what resizing is on a domain and a metric
 abbrev pub resize_from : ℕ → ℤ → Domain → Metric → Result Mapping Refused

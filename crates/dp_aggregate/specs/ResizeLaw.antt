@@ -34,17 +34,18 @@ unfolding resized first_of
 resized-is size fill xs =
     let long = length-in_order xs in
     elim (cases_lt (length xs) size) [
-      inl short ↦
-        let all = take_all size (in_order xs) (omega arith) in
-        let sum : size ≡ length (in_order xs) + (size - length xs) = omega arith in
-        let behind : take size (in_order xs ++ replicate size fill) ≡ in_order xs ++ take (size - length xs) (replicate size fill) =
-              ap (λ (n : ℕ). take n (in_order xs ++ replicate size fill)) sum ∙ take-append-add (in_order xs) (replicate size fill) (size - length xs) in
-        let fills = take-replicate (size - length xs) size fill (omega arith) in
-        ap (λ (l : List ℤ). l ++ replicate (size - length xs) fill) all ∙ ap (λ (l : List ℤ). in_order xs ++ l) (sym fills) ∙ sym behind
-    | inr enough ↦
-        let none : size - length xs ≡ 0 = omega arith in
-        let cut = take-append-le size (in_order xs) (replicate size fill) (omega arith) in
-        ap (λ (n : ℕ). take size (in_order xs) ++ replicate n fill) none ∙ append-nil (take size (in_order xs)) ∙ sym cut ]
+      | inl short ↦
+          let all = take_all size (in_order xs) (omega arith) in
+          let sum : size ≡ length (in_order xs) + (size - length xs) = omega arith in
+          let behind : take size (in_order xs ++ replicate size fill) ≡ in_order xs ++ take (size - length xs) (replicate size fill) =
+          ap (λ (n : ℕ). take n (in_order xs ++ replicate size fill)) sum ∙ take-append-add (in_order xs) (replicate size fill) (size - length xs) in
+          let fills = take-replicate (size - length xs) size fill (omega arith) in
+          ap (λ (l : List ℤ). l ++ replicate (size - length xs) fill) all ∙ ap (λ (l : List ℤ). in_order xs ++ l) (sym fills) ∙ sym behind
+      | inr enough ↦
+          let none : size - length xs ≡ 0 = omega arith in
+          let cut = take-append-le size (in_order xs) (replicate size fill) (omega arith) in
+          ap (λ (n : ℕ). take size (in_order xs) ++ replicate n fill) none ∙ append-nil (take size (in_order xs)) ∙ sym cut
+    ]
 
 pub length-resized : (size : ℕ) (fill : ℤ) (xs : List ℤ) → length (resized size fill xs) ≡ size
 unfolding resized
@@ -55,8 +56,8 @@ All-resized : (P : ℤ → Type 0) (size : ℕ) (fill : ℤ) (xs : List ℤ) →
 unfolding resized
 All-resized P size fill xs h all =
     All-append P (take size (in_order xs)) (replicate (size - length xs) fill)
-      (All-take P size (in_order xs) (All-permutation P xs (in_order xs) (in_order-permutes xs) all))
-      (All-replicate P (size - length xs) fill h)
+    (All-take P size (in_order xs) (All-permutation P xs (in_order xs) (in_order-permutes xs) all))
+    (All-replicate P (size - length xs) fill h)
 
 -- one number more replaces at most one number of the first
 first-exchange : (size : ℕ) (fill x : ℤ) (xs : List ℤ) → diff int_eq (first_of size fill xs) (first_of size fill (x ∷ xs)) ≤ 2
@@ -126,5 +127,5 @@ resize_law lo hi size fill input good =
       output_fits = (input.0, (parts.0, parts.1));
       lands = resize_lands lo hi size fill (fill-between lo hi fill parts.2 parts.3);
       limited = capped-le;
-      stable = λ d e v w map_is. resize_stable size fill d e lo hi v w (capped-same d e map_is)
+      stable = λ d e v w map_is. resize_stable size fill d e lo hi v w (capped-same d e map_is);
     }

@@ -105,20 +105,20 @@ rises-once (x ∷ xs) (y ∷ ys) h k often =
     let in_left : 1 ≤ occurrences int_eq (x ∷ xs) y = let a = here y ys in let b = often y in omega arith in
     let heads = equal-heads x y (first-least x xs y h in_left) (first-least y ys x k in_right) in
     let tails = rises-once xs ys h.1 k.1 (λ e.
-        let a = often e in
-        let b = occurrences-cons int_eq x xs e in
-        let c = occurrences-cons int_eq y ys e in
-        let d : one (int_eq e x) ≡ one (int_eq e y) = ap (λ (z : ℤ). one (int_eq e z)) heads in
-        omega arith) in
+    let a = often e in
+    let b = occurrences-cons int_eq x xs e in
+    let c = occurrences-cons int_eq y ys e in
+    let d : one (int_eq e x) ≡ one (int_eq e y) = ap (λ (z : ℤ). one (int_eq e z)) heads in
+    omega arith) in
     ap (λ (z : ℤ). z ∷ xs) heads ∙ ap (λ (l : List ℤ). y ∷ l) tails
 
 -- .. so order plays no part
 pub in_order-same : (xs ys : List ℤ) → IsPermutation xs ys → in_order xs ≡ in_order ys
 in_order-same xs ys h =
     rises-once (in_order xs) (in_order ys) (in_order-rises xs) (in_order-rises ys) (λ e.
-      occurrences-permutation int_eq xs (in_order xs) e (in_order-permutes xs)
-      ∙ sym (occurrences-permutation int_eq xs ys e h)
-      ∙ sym (occurrences-permutation int_eq ys (in_order ys) e (in_order-permutes ys)))
+    occurrences-permutation int_eq xs (in_order xs) e (in_order-permutes xs)
+    ∙ sym (occurrences-permutation int_eq xs ys e h)
+    ∙ sym (occurrences-permutation int_eq ys (in_order ys) e (in_order-permutes ys)))
 
 not-less-by : (x y : ℤ) (b : Bool) → int_lt y x ≡ b → is_lt (cond b Less (cond (int_lt x y) Greater Equal)) ≡ false → x ≤ℤ y
 not-less-by x y true e h = absurd cc
@@ -142,4 +142,4 @@ sorted-rises (x ∷ y ∷ ys) h =
 pub sorted-in_order : (xs ys : List ℤ) → IsPermutation xs ys → IsSorted int_cmp ys → ys ≡ in_order xs
 sorted-in_order xs ys h sorted =
     rises-once ys (in_order xs) (sorted-rises ys sorted) (in_order-rises xs) (λ e.
-      occurrences-permutation int_eq xs ys e h ∙ sym (occurrences-permutation int_eq xs (in_order xs) e (in_order-permutes xs)))
+    occurrences-permutation int_eq xs ys e h ∙ sym (occurrences-permutation int_eq xs (in_order xs) e (in_order-permutes xs)))

@@ -47,8 +47,8 @@ sum_mapping lo hi size = record {
   output_domain = domain.Int (sum_low lo size) (sum_high hi size);
   output_metric = metrics.Absolute;
   function = sum_value;
-  stability_map = λ d. capped (d * sum_factor lo hi size)
-  }
+  stability_map = λ d. capped (d * sum_factor lo hi size);
+}
 
 -- what adding is on a domain and a metric
 abbrev pub sum_from : Domain → Metric → Result Mapping Refused

@@ -61,9 +61,10 @@ fold-between lo hi a [] h = (none-low a (pos 0 *ℤ lo) (zero-*ℤ lo), none-hig
 fold-between lo hi a (x ∷ xs) h =
     let head = All-head (IsBetween lo hi) x xs h in
     let ih = fold-between lo hi (a +ℤ x) xs (All-tail (IsBetween lo hi) x xs h) in
-    let s = fold ◌+ℤ◌ (a +ℤ x) xs in
-    (low-step a x lo (pos (length xs) *ℤ lo) (pos (suc (length xs)) *ℤ lo) s (suc_ℤ-*ℤ (pos (length xs)) lo) head.0 ih.0,
-     high-step a x hi (pos (length xs) *ℤ hi) (pos (suc (length xs)) *ℤ hi) s (suc_ℤ-*ℤ (pos (length xs)) hi) head.1 ih.1)
+    let s = fold ◌+ℤ◌ (a +ℤ x) xs in (
+      low-step a x lo (pos (length xs) *ℤ lo) (pos (suc (length xs)) *ℤ lo) s (suc_ℤ-*ℤ (pos (length xs)) lo) head.0 ih.0,
+      high-step a x hi (pos (length xs) *ℤ hi) (pos (suc (length xs)) *ℤ hi) s (suc_ℤ-*ℤ (pos (length xs)) hi) head.1 ih.1,
+    )
 
 from-zero-low : (p s : ℤ) → (pos 0 +ℤ p) ≤ℤ s → p ≤ℤ s
 from-zero-low p s h = omega (arith, ints)
@@ -102,9 +103,10 @@ sum_lands lo hi None (value.Ints xs) has =
     let n = length xs in
     let least = min-zero lo in
     let most = max-zero hi in
-    let bounds = sum-between low high xs (All-weaker (IsBetween lo hi) (IsBetween low high) (wider lo hi low high least.1 most.1) xs has.1) in
-    (le-through (pos (2 ^ 30) *ℤ low) (pos n *ℤ low) (int_sum xs) (times-fall n (2 ^ 30) low has.0 least.0) bounds.0,
-     le-through (int_sum xs) (pos n *ℤ high) (pos (2 ^ 30) *ℤ high) bounds.1 (times-rise n (2 ^ 30) high has.0 most.0))
+    let bounds = sum-between low high xs (All-weaker (IsBetween lo hi) (IsBetween low high) (wider lo hi low high least.1 most.1) xs has.1) in (
+      le-through (pos (2 ^ 30) *ℤ low) (pos n *ℤ low) (int_sum xs) (times-fall n (2 ^ 30) low has.0 least.0) bounds.0,
+      le-through (int_sum xs) (pos n *ℤ high) (pos (2 ^ 30) *ℤ high) bounds.1 (times-rise n (2 ^ 30) high has.0 most.0),
+    )
 sum_lands lo hi (Some size) (value.Ints xs) has =
     subst (λ (n : ℕ). IsBetween (pos n *ℤ lo) (pos n *ℤ hi) (int_sum xs)) has.0 (sum-between lo hi xs has.1)
 sum_lands lo hi size v has = absurd has
@@ -117,10 +119,11 @@ sum_fits : (lo hi : ℤ) (size : Option ℕ) → Fits (domain.Ints lo hi size) �
 sum_fits lo hi None fits =
     let limits = range-limits lo hi fits.0.0 fits.0.1 fits.0.2 in
     let low = int_min (pos 0) lo in
-    let high = int_max (pos 0) hi in
-    ((times-limits (2 ^ 30) low (omega arith) (min-limits lo limits.0)).0,
-     times-order (2 ^ 30) low high (le-through low (pos 0) high (min-zero lo).0 (max-zero hi).0),
-     (times-limits (2 ^ 30) high (omega arith) (max-limits hi limits.1)).1)
+    let high = int_max (pos 0) hi in (
+      (times-limits (2 ^ 30) low (omega arith) (min-limits lo limits.0)).0,
+      times-order (2 ^ 30) low high (le-through low (pos 0) high (min-zero lo).0 (max-zero hi).0),
+      (times-limits (2 ^ 30) high (omega arith) (max-limits hi limits.1)).1,
+    )
 sum_fits lo hi (Some size) fits =
     let limits = range-limits lo hi fits.0.0 fits.0.1 fits.0.2 in
     let most = fits.1.1 in
@@ -147,5 +150,5 @@ sum_law lo hi size input = record {
   output_fits = sum_fits lo hi size input;
   lands = sum_lands lo hi size;
   limited = λ d e map_is. capped-le (d * sum_factor lo hi size) e map_is;
-  stable = λ d e v w map_is. sum_stable lo hi size d e v w (capped-same (d * sum_factor lo hi size) e map_is)
-  }
+  stable = λ d e v w map_is. sum_stable lo hi size d e v w (capped-same (d * sum_factor lo hi size) e map_is);
+}

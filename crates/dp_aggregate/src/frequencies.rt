@@ -77,11 +77,7 @@ impl Transformation for Histogram {
         let Value::Cats(categories) = v else {
             unreachable!()
         };
-        Ok(Value::IntVec(Cells::from_vec(count_each(
-            alloc,
-            self.n,
-            categories.as_slice(),
-        )?)))
+        Ok(Value::IntVec(Cells::from_vec(count_each(alloc, self.n, categories.as_slice())?)))
     }
 
     ghost law = { λ t. histogram_law t.n t.size t.input_fits };

@@ -95,12 +95,7 @@ impl Transformation for Resize {
         let Value::Ints(numbers) = v else {
             unreachable!()
         };
-        Ok(Value::Ints(Ints::from_vec(least(
-            alloc,
-            numbers.as_slice(),
-            self.size,
-            &self.fill,
-        )?)))
+        Ok(Value::Ints(Ints::from_vec(least(alloc, numbers.as_slice(), self.size, &self.fill)?)))
     }
 
     ghost law = { λ t. resize_law t.lo t.hi t.size t.fill t.input_fits t.size_fits };

@@ -1,8 +1,7 @@
 use super::*;
 use dp_count::NoMemory;
 use dp_domain::{Domain, Items, Metric, Value};
-use dp_law::{Refused, Transformation};
-use dp_num::Past;
+use dp_law::{Refused, Transformation, list_metric};
 use std::alloc::Global;
 use std::test::Fail;
 
@@ -18,287 +17,352 @@ fn categories(alloc: Global, list: &[u32]) -> Result<Value, NoMemory> {
     Ok(Value::Cats(Items::from_vec(Vec::from_slice(alloc, list)?)))
 }
 
-/// The part's value, where its input domain has the argument and its output domain has the value.
-fn applied<T: Transformation>(
-    alloc: Global,
-    part: &T,
-    v: &Value,
-) -> Result<Option<Value>, NoMemory> {
-    if !part.in_domain().fits() || !part.in_domain().has(v) {
-        return Ok(None);
+/// The part's number or category, where its input domain has the value.
+fn number_of<T: Transformation>(alloc: Global, part: &T, v: &Value) -> Option<i64> {
+    let domain = part.in_domain();
+    if !domain.fits() || !domain.has(v) {
+        return None;
     }
-    Ok(Some(part.apply(alloc, v)?))
+    match part.apply(alloc, v) {
+        Ok(Value::Int(number)) => Some(number),
+        Ok(Value::Cat(category)) => Some(i64::from(category)),
+        _ => None,
+    }
 }
 
-fn is_int(value: &Option<Value>, wanted: i64) -> bool {
-    match value {
-        Some(Value::Int(number)) => *number == wanted,
+/// Whether the input domain of the part has the value, and the part gives the list or the vector.
+fn gives<T: Transformation>(alloc: Global, part: &T, v: &Value, wanted: &[i64]) -> bool {
+    let domain = part.in_domain();
+    if !domain.fits() || !domain.has(v) {
+        return false;
+    }
+    match part.apply(alloc, v) {
+        Ok(Value::Ints(list)) => list.as_slice() == wanted,
+        Ok(Value::IntVec(cells)) => cells.as_slice() == wanted,
         _ => false,
     }
 }
 
-fn is_cat(value: &Option<Value>, wanted: u32) -> bool {
-    match value {
-        Some(Value::Cat(category)) => *category == wanted,
-        _ => false,
+/// The part's distance at `d`, where it is not past.
+fn distance_of<T: Transformation>(part: &T, d: u64) -> Option<u64> {
+    if d > 4_294_967_296 {
+        return None;
     }
+    part.map(d).ok()
 }
 
-fn is_list(value: &Option<Value>, wanted: &[i64]) -> bool {
-    match value {
-        Some(Value::Ints(list)) => list.as_slice() == wanted,
-        Some(Value::IntVec(cells)) => cells.as_slice() == wanted,
-        _ => false,
+fn sum(domain: Domain, metric: Metric) -> Result<Sum, Refused> {
+    if !domain.fits() {
+        return Err(Refused::Bound);
+    }
+    Sum::new(domain, metric)
+}
+
+fn sum_map(lo: i64, hi: i64, size: Option<u32>, d: u64) -> Option<u64> {
+    distance_of(&sum(ints(lo, hi, size), list_metric(size)).ok()?, d)
+}
+
+fn sum_of(alloc: Global, size: Option<u32>, list: &[i64]) -> Option<i64> {
+    let part = sum(ints(-5, 10, size), list_metric(size)).ok()?;
+    number_of(alloc, &part, &numbers(alloc, list).ok()?)
+}
+
+#[test]
+fn sums_map_by_the_greatest_bound_or_by_the_range(rt: HostRuntime) {
+    for (lo, hi, size, d, wanted) in [
+        (-5, 10, None, 2, Some(20)),
+        (-5, 10, Some(4), 1, Some(15)),
+        (0, 3, None, 1_431_655_765, Some(4_294_967_295)),
+        (0, 3, None, 1_431_655_766, None),
+        (
+            -2_147_483_648,
+            2_147_483_648,
+            Some(1),
+            1,
+            Some(4_294_967_296),
+        ),
+        (-2_147_483_648, 2_147_483_648, Some(1), 2, None),
+    ] {
+        assert_eq!(rt; sum_map(lo, hi, size, d), wanted);
     }
 }
 
 #[test]
-fn sums_map_by_the_greatest_bound_or_by_the_range(rt: HostRuntime) -> Result<(), Fail> {
-    let plain = Sum::new(ints(-5, 10, None), Metric::Symmetric)?;
-    assert_eq!(rt; plain.map(2), Ok(20));
-    let sized = Sum::new(ints(-5, 10, Some(4)), Metric::ChangeOne)?;
-    assert_eq!(rt; sized.map(1), Ok(15));
-    let threes = Sum::new(ints(0, 3, None), Metric::Symmetric)?;
-    assert_eq!(rt; threes.map(1_431_655_765), Ok(4_294_967_295));
-    assert_eq!(rt; threes.map(1_431_655_766), Err(Past));
-    let whole = Sum::new(
-        ints(-2_147_483_648, 2_147_483_648, Some(1)),
-        Metric::ChangeOne,
-    )?;
-    assert_eq!(rt; whole.map(1), Ok(4_294_967_296));
-    assert_eq!(rt; whole.map(2), Err(Past));
-    Ok(())
+fn sums_add(rt: HostRuntime) {
+    for (size, list, wanted) in [
+        (None, &[10, -5, 4][..], 9),
+        (None, &[][..], 0),
+        (Some(3), &[-5, -5, -5][..], -15),
+    ] {
+        assert_eq!(rt; sum_of(rt.alloc(), size, list), Some(wanted));
+    }
 }
 
-#[test]
-fn sums_add_and_have_their_range(rt: HostRuntime) -> Result<(), Fail> {
-    let alloc = rt.alloc();
-    let plain = Sum::new(ints(-5, 10, None), Metric::Symmetric)?;
-    assert!(rt; is_int(&applied(alloc, &plain, &numbers(alloc, &[10, -5, 4])?)?, 9));
-    assert!(rt; is_int(&applied(alloc, &plain, &numbers(alloc, &[])?)?, 0));
-    assert_eq!(rt; plain.out_domain(), Domain::Int { lo: -5_368_709_120, hi: 10_737_418_240 });
-    let above = Sum::new(ints(3, 10, None), Metric::Symmetric)?;
-    assert_eq!(rt; above.out_domain(), Domain::Int { lo: 0, hi: 10_737_418_240 });
-    let sized = Sum::new(ints(-5, 10, Some(3)), Metric::ChangeOne)?;
-    assert!(rt; is_int(&applied(alloc, &sized, &numbers(alloc, &[-5, -5, -5])?)?, -15));
-    assert_eq!(rt; sized.out_domain(), Domain::Int { lo: -15, hi: 30 });
-    Ok(())
+fn histogram(domain: Domain, metric: Metric) -> Result<Histogram, Refused> {
+    if !domain.fits() {
+        return Err(Refused::Bound);
+    }
+    Histogram::new(domain, metric)
 }
 
 #[test]
 fn histograms_count_each_category(rt: HostRuntime) -> Result<(), Fail> {
     let alloc = rt.alloc();
-    let plain = Histogram::new(Domain::Cats { n: 3, size: None }, Metric::Symmetric)?;
-    assert!(rt; is_list(&applied(alloc, &plain, &categories(alloc, &[0, 2, 0])?)?, &[2, 0, 1]));
-    assert!(rt; is_list(&applied(alloc, &plain, &categories(alloc, &[])?)?, &[0, 0, 0]));
-    assert_eq!(rt; plain.map(2), Ok(2));
-    assert_eq!(rt; plain.out_domain(), Domain::IntVec { len: 3, lo: 0, hi: 1_073_741_824 });
-    let sized = Histogram::new(
+    let plain = histogram(Domain::Cats { n: 3, size: None }, Metric::Symmetric)?;
+    for (list, wanted) in [(&[0, 2, 0][..], &[2, 0, 1][..]), (&[][..], &[0, 0, 0][..])] {
+        assert!(rt; gives(alloc, &plain, &categories(alloc, list)?, wanted));
+    }
+    assert_eq!(rt; distance_of(&plain, 2), Some(2));
+    Ok(())
+}
+
+#[test]
+fn histograms_of_sized_lists_map_to_twice_the_distance(rt: HostRuntime) -> Result<(), Fail> {
+    let sized = histogram(
         Domain::Cats {
             n: 3,
             size: Some(4),
         },
         Metric::ChangeOne,
     )?;
-    assert_eq!(rt; sized.map(2), Ok(4));
-    assert_eq!(rt; sized.map(2_147_483_648), Ok(4_294_967_296));
-    assert_eq!(rt; sized.map(2_147_483_649), Err(Past));
-    assert_eq!(rt; sized.out_domain(), Domain::IntVec { len: 3, lo: 0, hi: 4 });
+    for (d, wanted) in [
+        (2, Some(4)),
+        (2_147_483_648, Some(4_294_967_296)),
+        (2_147_483_649, None),
+    ] {
+        assert_eq!(rt; distance_of(&sized, d), wanted);
+    }
     Ok(())
+}
+
+fn resize(domain: Domain, metric: Metric, size: u64, fill: i64) -> Result<Resize, Refused> {
+    if !domain.fits() {
+        return Err(Refused::Bound);
+    }
+    Resize::new(domain, metric, size, fill)
+}
+
+fn resizes(alloc: Global, size: u64, list: &[i64], wanted: &[i64]) -> Result<bool, Fail> {
+    let part = resize(ints(-9, 9, None), Metric::Symmetric, size, 0)?;
+    Ok(gives(alloc, &part, &numbers(alloc, list)?, wanted))
 }
 
 #[test]
 fn resizing_keeps_the_least_and_fills_up(rt: HostRuntime) -> Result<(), Fail> {
-    let alloc = rt.alloc();
-    let domain = ints(-10, 10, None);
-    let two = Resize::new(domain, Metric::Symmetric, 2, 0)?;
-    let five = Resize::new(domain, Metric::Symmetric, 5, 0)?;
-    let list = numbers(alloc, &[9, 3, 7])?;
-    assert!(rt; is_list(&applied(alloc, &two, &list)?, &[3, 7]));
-    assert!(rt; is_list(&applied(alloc, &five, &list)?, &[3, 7, 9, 0, 0]));
-    assert!(rt; is_list(&applied(alloc, &two, &numbers(alloc, &[])?)?, &[0, 0]));
-    assert!(rt; is_list(&applied(alloc, &two, &numbers(alloc, &[4, -4, 4])?)?, &[-4, 4]));
-    assert_eq!(rt; two.map(3), Ok(3));
-    assert_eq!(rt; two.out_domain(), ints(-10, 10, Some(2)));
+    for (size, list, wanted) in [
+        (2, &[9, 3, 7][..], &[3, 7][..]),
+        (5, &[9, 3, 7][..], &[3, 7, 9, 0, 0][..]),
+        (2, &[][..], &[0, 0][..]),
+        (2, &[4, -4, 4][..], &[-4, 4][..]),
+    ] {
+        assert!(rt; resizes(rt.alloc(), size, list, wanted)?);
+    }
     Ok(())
+}
+
+fn quantise(domain: Domain, metric: Metric, step: u64) -> Result<Quantise, Refused> {
+    if !domain.fits() {
+        return Err(Refused::Bound);
+    }
+    Quantise::new(domain, metric, step)
 }
 
 #[test]
 fn quantising_rounds_down(rt: HostRuntime) -> Result<(), Fail> {
-    let alloc = rt.alloc();
-    let thirds = Quantise::new(Domain::Int { lo: -7, hi: 7 }, Metric::Absolute, 3)?;
+    let thirds = quantise(Domain::Int { lo: -7, hi: 7 }, Metric::Absolute, 3)?;
     for (number, wanted) in [(-7, -3), (-6, -2), (-1, -1), (0, 0), (2, 0), (7, 2)] {
-        assert!(rt; is_int(&applied(alloc, &thirds, &Value::Int(number))?, wanted));
+        assert_eq!(rt;
+            number_of(rt.alloc(), &thirds, &Value::Int(number)),
+            Some(wanted)
+        );
     }
     for (d, wanted) in [(0, 0), (1, 1), (3, 1), (4, 2)] {
-        assert_eq!(rt; thirds.map(d), Ok(wanted));
+        assert_eq!(rt; distance_of(&thirds, d), Some(wanted));
     }
-    assert_eq!(rt; thirds.out_domain(), Domain::Int { lo: -3, hi: 2 });
     Ok(())
+}
+
+fn at_least(domain: Domain, metric: Metric, edges: Vec<i64>) -> Result<AtLeast, Refused> {
+    if !domain.fits() {
+        return Err(Refused::Bound);
+    }
+    AtLeast::new(domain, metric, edges)
 }
 
 #[test]
 fn an_edge_is_reached_from_itself_on(rt: HostRuntime) -> Result<(), Fail> {
-    let alloc = rt.alloc();
-    let domain = Domain::Int { lo: -9, hi: 9 };
-    let part = AtLeast::new(domain, Metric::Absolute, vec![in alloc; 2, 5]?)?;
+    let edges = vec![in rt.alloc(); 2, 5]?;
+    let part = at_least(Domain::Int { lo: -9, hi: 9 }, Metric::Absolute, edges)?;
     for (number, wanted) in [(-9, 0), (1, 0), (2, 1), (4, 1), (5, 2), (9, 2)] {
-        assert!(rt; is_cat(&applied(alloc, &part, &Value::Int(number))?, wanted));
+        assert_eq!(rt;
+            number_of(rt.alloc(), &part, &Value::Int(number)),
+            Some(wanted)
+        );
     }
     for (d, wanted) in [(0, 0), (1, 1), (5, 1)] {
-        assert_eq!(rt; part.map(d), Ok(wanted));
+        assert_eq!(rt; distance_of(&part, d), Some(wanted));
     }
-    assert_eq!(rt; part.out_domain(), Domain::Cat { n: 3 });
     Ok(())
+}
+
+fn count(domain: Domain, metric: Metric) -> Result<Count, Refused> {
+    if !domain.fits() {
+        return Err(Refused::Bound);
+    }
+    Count::new(domain, metric)
 }
 
 #[test]
-fn lists_of_each_kind_are_counted(rt: HostRuntime) -> Result<(), Fail> {
+fn lists_are_counted(rt: HostRuntime) -> Result<(), Fail> {
     let alloc = rt.alloc();
-    let number_lists = Count::new(ints(-5, 5, None), Metric::Symmetric)?;
-    assert!(rt; is_int(&applied(alloc, &number_lists, &numbers(alloc, &[3, 3])?)?, 2));
-    let category_lists = Count::new(Domain::Cats { n: 3, size: None }, Metric::Symmetric)?;
-    assert!(rt; is_int(&applied(alloc, &category_lists, &categories(alloc, &[2])?)?, 1));
-    let texts = Count::new(Domain::Texts, Metric::Symmetric)?;
-    assert!(rt; is_int(&applied(alloc, &texts, &Value::Texts(Items::new(alloc)))?, 0));
-    let rows = Count::new(Domain::Rows { columns: 1 }, Metric::Symmetric)?;
-    assert!(rt; is_int(&applied(alloc, &rows, &Value::Rows(Items::new(alloc)))?, 0));
-    let some = Count::new(Domain::OptInts { lo: 0, hi: 9 }, Metric::Symmetric)?;
-    let missing = Value::OptInts(Items::from_vec(vec![in alloc; None, Some(4)]?));
-    assert!(rt; is_int(&applied(alloc, &some, &missing)?, 2));
-    assert_eq!(rt; some.map(4_294_967_296), Ok(4_294_967_296));
-    assert_eq!(rt; some.out_domain(), Domain::Int { lo: 0, hi: 1_073_741_824 });
+    let part = count(ints(-5, 5, None), Metric::Symmetric)?;
+    assert_eq!(rt; number_of(alloc, &part, &numbers(alloc, &[3, 3])?), Some(2));
+    let part = count(Domain::Texts, Metric::Symmetric)?;
+    assert_eq!(rt;
+        number_of(alloc, &part, &Value::Texts(Items::new(alloc))),
+        Some(0)
+    );
+    assert_eq!(rt; distance_of(&part, 4_294_967_296), Some(4_294_967_296));
     Ok(())
 }
 
-/// What `Count`, `Sum` and `Histogram` are refused for, in that order.
-fn list_refusals(domain: Domain, metric: Metric) -> (Option<Refused>, Option<Refused>, Option<Refused>) {
-    if !domain.fits() {
-        return (None, None, None);
-    }
-    (
-        Count::new(domain, metric).err(),
-        Sum::new(domain, metric).err(),
-        Histogram::new(domain, metric).err(),
-    )
+/// What `Count`, `Sum` and `Histogram` are refused for.
+fn refusals(domain: Domain, metric: Metric) -> [Option<Refused>; 3] {
+    [
+        count(domain, metric).err(),
+        sum(domain, metric).err(),
+        histogram(domain, metric).err(),
+    ]
 }
+
+const KIND: Option<Refused> = Some(Refused::Kind);
+
+const METRIC: Option<Refused> = Some(Refused::Metric);
+
+const BOUND: Option<Refused> = Some(Refused::Bound);
 
 #[test]
 fn parts_of_lists_are_refused_by_kind_and_then_by_metric(rt: HostRuntime) {
-    const KIND: Option<Refused> = Some(Refused::Kind);
-    const METRIC: Option<Refused> = Some(Refused::Metric);
-    for (domain, metric, count, sum, histogram) in [
-        (ints(0, 9, None), Metric::Symmetric, None, None, KIND),
-        (ints(0, 9, None), Metric::ChangeOne, METRIC, METRIC, KIND),
-        (ints(0, 9, Some(4)), Metric::ChangeOne, METRIC, None, KIND),
-        (ints(0, 9, Some(4)), Metric::Symmetric, METRIC, METRIC, KIND),
-        (Domain::Cats { n: 2, size: None }, Metric::Symmetric, None, KIND, None),
-        (Domain::Cats { n: 2, size: None }, Metric::L1, METRIC, KIND, METRIC),
-        (Domain::Cats { n: 2, size: Some(4) }, Metric::ChangeOne, METRIC, KIND, None),
-        (Domain::Cats { n: 2, size: Some(4) }, Metric::Symmetric, METRIC, KIND, METRIC),
-        (Domain::Rows { columns: 1 }, Metric::Symmetric, None, KIND, KIND),
-        (Domain::Rows { columns: 1 }, Metric::Absolute, METRIC, KIND, KIND),
-        (Domain::Texts, Metric::ChangeOne, METRIC, KIND, KIND),
-        (Domain::OptInts { lo: 0, hi: 9 }, Metric::ChangeOne, METRIC, KIND, KIND),
-        (Domain::Int { lo: 0, hi: 9 }, Metric::Symmetric, KIND, KIND, KIND),
-        (Domain::Cat { n: 2 }, Metric::Discrete, KIND, KIND, KIND),
-        (Domain::IntVec { len: 2, lo: 0, hi: 9 }, Metric::L1, KIND, KIND, KIND),
+    let cats = Domain::Cats { n: 2, size: None };
+    let sized = Domain::Cats {
+        n: 2,
+        size: Some(4),
+    };
+    for (domain, metric, wanted) in [
+        (ints(0, 9, None), Metric::Symmetric, [None, None, KIND]),
+        (ints(0, 9, None), Metric::ChangeOne, [METRIC, METRIC, KIND]),
+        (ints(0, 9, Some(4)), Metric::ChangeOne, [METRIC, None, KIND]),
+        (
+            ints(0, 9, Some(4)),
+            Metric::Symmetric,
+            [METRIC, METRIC, KIND],
+        ),
+        (cats, Metric::Symmetric, [None, KIND, None]),
+        (cats, Metric::L1, [METRIC, KIND, METRIC]),
+        (sized, Metric::ChangeOne, [METRIC, KIND, None]),
+        (sized, Metric::Symmetric, [METRIC, KIND, METRIC]),
+        (
+            Domain::Rows { columns: 1 },
+            Metric::Symmetric,
+            [None, KIND, KIND],
+        ),
+        (Domain::Texts, Metric::ChangeOne, [METRIC, KIND, KIND]),
+        (
+            Domain::OptInts { lo: 0, hi: 9 },
+            Metric::Symmetric,
+            [None, KIND, KIND],
+        ),
+        (
+            Domain::Int { lo: 0, hi: 9 },
+            Metric::Symmetric,
+            [KIND, KIND, KIND],
+        ),
+        (Domain::Cat { n: 2 }, Metric::Discrete, [KIND, KIND, KIND]),
+        (
+            Domain::IntVec {
+                len: 2,
+                lo: 0,
+                hi: 9,
+            },
+            Metric::L1,
+            [KIND, KIND, KIND],
+        ),
     ] {
-        assert_eq!(rt; list_refusals(domain, metric), (count, sum, histogram));
+        assert_eq!(rt; refusals(domain, metric), wanted);
     }
-}
-
-fn resize_refusal(domain: Domain, metric: Metric, size: u64, fill: i64) -> Option<Refused> {
-    if !domain.fits() {
-        return None;
-    }
-    Resize::new(domain, metric, size, fill).err()
 }
 
 #[test]
 fn resizing_is_refused_by_kind_metric_and_bound(rt: HostRuntime) {
-    let domain = ints(-3, 9, None);
-    let metric = Metric::Symmetric;
-    for (size, fill, wanted) in [
-        (0, 0, Some(Refused::Bound)),
-        (1, 0, None),
-        (1_048_576, 0, None),
-        (1_048_577, 0, Some(Refused::Bound)),
-        (4_294_967_297, 0, Some(Refused::Bound)),
-        (1, -4, Some(Refused::Bound)),
-        (1, -3, None),
-        (1, 9, None),
-        (1, 10, Some(Refused::Bound)),
+    let plain = ints(-3, 9, None);
+    for (domain, metric, size, fill, wanted) in [
+        (plain, Metric::Symmetric, 0, 0, BOUND),
+        (plain, Metric::Symmetric, 1, -3, None),
+        (plain, Metric::Symmetric, 1_048_576, 9, None),
+        (plain, Metric::Symmetric, 1_048_577, 0, BOUND),
+        (plain, Metric::Symmetric, 4_294_967_297, 0, BOUND),
+        (plain, Metric::Symmetric, 1, -4, BOUND),
+        (plain, Metric::Symmetric, 1, 10, BOUND),
+        (plain, Metric::ChangeOne, 0, 0, METRIC),
+        (ints(-3, 9, Some(4)), Metric::ChangeOne, 0, 0, METRIC),
+        (Domain::Texts, Metric::L1, 0, 0, KIND),
     ] {
-        assert_eq!(rt; resize_refusal(domain, metric, size, fill), wanted);
+        assert_eq!(rt; resize(domain, metric, size, fill).err(), wanted);
     }
-    assert_eq!(rt; resize_refusal(domain, Metric::ChangeOne, 0, 0), Some(Refused::Metric));
-    assert_eq!(rt; resize_refusal(ints(-3, 9, Some(4)), metric, 0, 0), Some(Refused::Metric));
-    assert_eq!(rt; resize_refusal(Domain::Texts, Metric::L1, 0, 0), Some(Refused::Kind));
-}
-
-fn quantise_refusal(domain: Domain, metric: Metric, step: u64) -> Option<Refused> {
-    if !domain.fits() {
-        return None;
-    }
-    Quantise::new(domain, metric, step).err()
 }
 
 #[test]
 fn quantising_is_refused_by_kind_metric_and_bound(rt: HostRuntime) {
-    let domain = Domain::Int { lo: -2_305_843_009_213_693_952, hi: 2_305_843_009_213_693_952 };
+    let number = Domain::Int { lo: 0, hi: 9 };
     for (domain, metric, step, wanted) in [
-        (domain, Metric::Absolute, 0, Some(Refused::Bound)),
-        (domain, Metric::Absolute, 1, None),
-        (domain, Metric::Absolute, 2_147_483_648, None),
-        (domain, Metric::Absolute, 2_147_483_649, Some(Refused::Bound)),
-        (domain, Metric::Discrete, 0, Some(Refused::Metric)),
-        (Domain::Cat { n: 2 }, Metric::Discrete, 0, Some(Refused::Kind)),
+        (number, Metric::Absolute, 0, BOUND),
+        (number, Metric::Absolute, 1, None),
+        (number, Metric::Absolute, 2_147_483_648, None),
+        (number, Metric::Absolute, 2_147_483_649, BOUND),
+        (number, Metric::Discrete, 0, METRIC),
+        (Domain::Cat { n: 2 }, Metric::Discrete, 0, KIND),
     ] {
-        assert_eq!(rt; quantise_refusal(domain, metric, step), wanted);
+        assert_eq!(rt; quantise(domain, metric, step).err(), wanted);
     }
 }
 
-fn edges_refusal(domain: Domain, metric: Metric, edges: Vec<i64>) -> Option<Refused> {
-    if !domain.fits() {
-        return None;
-    }
-    AtLeast::new(domain, metric, edges).err()
+/// What `AtLeast` is refused for at the edges.
+fn edges_refusal(
+    alloc: Global,
+    metric: Metric,
+    edges: &[i64],
+) -> Result<Option<Refused>, NoMemory> {
+    let domain = Domain::Int { lo: 0, hi: 9 };
+    Ok(at_least(domain, metric, Vec::from_slice(alloc, edges)?).err())
 }
 
-/// The numbers from 0, so many.
-fn many(alloc: Global, count: i64) -> Result<Vec<i64>, NoMemory> {
-    let mut list = Vec::new(alloc);
-    for number in 0..count {
-        list.push(number)?;
+/// What `AtLeast` is refused for at so many edges.
+fn many_edges_refusal(alloc: Global, count: i64) -> Result<Option<Refused>, NoMemory> {
+    let mut edges = Vec::new(alloc);
+    for edge in 0..count {
+        edges.push(edge)?;
     }
-    Ok(list)
+    edges_refusal(alloc, Metric::Absolute, edges.as_slice())
 }
 
 #[test]
 fn edges_are_refused_by_kind_metric_and_bound(rt: HostRuntime) -> Result<(), Fail> {
-    let alloc = rt.alloc();
-    let domain = Domain::Int { lo: 0, hi: 9 };
-    for (edges, wanted) in [
-        (&[][..], Some(Refused::Bound)),
-        (&[4][..], None),
-        (&[4, 4][..], Some(Refused::Bound)),
-        (&[4, 3][..], Some(Refused::Bound)),
-        (&[1, 2, 2][..], Some(Refused::Bound)),
-        (&[-2_305_843_009_213_693_952, 2_305_843_009_213_693_952][..], None),
-        (&[-2_305_843_009_213_693_953, 0][..], Some(Refused::Bound)),
-        (&[0, 2_305_843_009_213_693_953][..], Some(Refused::Bound)),
+    let limit = 2_305_843_009_213_693_952;
+    for (metric, edges, wanted) in [
+        (Metric::Absolute, &[][..], BOUND),
+        (Metric::Absolute, &[4][..], None),
+        (Metric::Absolute, &[4, 4][..], BOUND),
+        (Metric::Absolute, &[1, 2, 0][..], BOUND),
+        (Metric::Absolute, &[-limit, limit][..], None),
+        (Metric::Absolute, &[-limit - 1, 0][..], BOUND),
+        (Metric::Absolute, &[0, limit + 1][..], BOUND),
+        (Metric::L1, &[][..], METRIC),
     ] {
-        let list = Vec::from_slice(alloc, edges)?;
-        assert_eq!(rt; edges_refusal(domain, Metric::Absolute, list), wanted);
+        assert_eq!(rt; edges_refusal(rt.alloc(), metric, edges)?, wanted);
     }
-    let most = many(alloc, 1023)?;
-    assert_eq!(rt; edges_refusal(domain, Metric::Absolute, most), None);
-    let more = many(alloc, 1024)?;
-    assert_eq!(rt; edges_refusal(domain, Metric::Absolute, more), Some(Refused::Bound));
-    let none = Vec::new(alloc);
-    assert_eq!(rt; edges_refusal(domain, Metric::L1, none), Some(Refused::Metric));
-    let none = Vec::new(alloc);
-    assert_eq!(rt; edges_refusal(Domain::Texts, Metric::L1, none), Some(Refused::Kind));
+    let none = Vec::new(rt.alloc());
+    assert_eq!(rt; at_least(Domain::Texts, Metric::L1, none).err(), KIND);
+    assert_eq!(rt; many_edges_refusal(rt.alloc(), 1023)?, None);
+    assert_eq!(rt; many_edges_refusal(rt.alloc(), 1024)?, BOUND);
     Ok(())
 }

@@ -31,7 +31,7 @@ loop-category-preserved c =
     let few = occurrences-few xs i x in
     record {
       cells = omega arith;
-      counted = count-more cells.items xs i c.args.n _ c.loop-category-test.true (omega (arith, cells.ok.0)) below c.loop-category.invariant.counted (omega (arith, ints))
+      counted = count-more cells.items xs i c.args.n _ c.loop-category-test.true (omega (arith, cells.ok.0)) below c.loop-category.invariant.counted (omega (arith, ints));
     }
 
 pub returns : goal.returns
@@ -40,4 +40,4 @@ returns c =
     let xs = c.args.categories.now in
     let whole = take_all c.loop-category.category-index xs c.loop-category-test.false in
     fill_by_all (λ category. pos (occurrences nat_eq xs category)) c.loop-category.cells.items c.args.n (pos 0) (omega (arith, c.loop-category.cells.ok.0))
-      (λ k h. c.loop-category.invariant.counted k h ∙ ap (λ (ys : List ℕ). pos (occurrences nat_eq ys k)) whole)
+    (λ k h. c.loop-category.invariant.counted k h ∙ ap (λ (ys : List ℕ). pos (occurrences nat_eq ys k)) whole)

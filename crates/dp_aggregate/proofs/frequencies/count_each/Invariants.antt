@@ -6,5 +6,5 @@ use Rattle.dp_aggregate.proofs.frequencies.count_each.Given as goal
 abbrev pub invariant-loop-category : goal.invariant-loop-category
 invariant-loop-category l = record {
   cells : vec_len l.cells ≡ l.n;
-  counted : (k : ℕ) → k < l.n → get_or l.cells.items k (pos 0) ≡ pos (occurrences nat_eq (take l.category-index l.categories) k)
-  }
+  counted : (k : ℕ) → k < l.n → get_or l.cells.items k (pos 0) ≡ pos (occurrences nat_eq (take l.category-index l.categories) k);
+}

@@ -18,6 +18,6 @@ returns c =
     let fill : to_z w64 (of_z w64 c.args.fill.now) ≡ c.args.fill.now = to_z-of_z w64 c.args.fill.now fits in
     let missing : size - vec_len sorted ≡ size - length xs = ap (λ (n : ℕ). size - n) (c.sort_unstable.ensures.len ∙ c.in_ok-least.ensures.len) in
     c.in_ok-resize.ensures.items
-      ∙ ap (λ (l : List ℤ). take size l ++ replicate (size - vec_len sorted) (to_z w64 (of_z w64 c.args.fill.now))) ordered
-      ∙ ap (λ (n : ℕ). take size (in_order xs) ++ replicate n (to_z w64 (of_z w64 c.args.fill.now))) missing
-      ∙ ap (λ (z : ℤ). take size (in_order xs) ++ replicate (size - length xs) z) fill
+    ∙ ap (λ (l : List ℤ). take size l ++ replicate (size - vec_len sorted) (to_z w64 (of_z w64 c.args.fill.now))) ordered
+    ∙ ap (λ (n : ℕ). take size (in_order xs) ++ replicate n (to_z w64 (of_z w64 c.args.fill.now))) missing
+    ∙ ap (λ (z : ℤ). take size (in_order xs) ++ replicate (size - length xs) z) fill

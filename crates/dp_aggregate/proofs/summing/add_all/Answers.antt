@@ -9,5 +9,5 @@ loop-number-preserved c =
     record {
       total = grind (arith, ints, to_z-of_z, fold_more);
       low = omega (arith, ints, small.0, small.1);
-      high = omega (arith, ints, small.0, small.1)
+      high = omega (arith, ints, small.0, small.1);
     }

@@ -6,5 +6,5 @@ abbrev pub invariant-loop-number : goal.invariant-loop-number
 invariant-loop-number l = record {
   total : l.total ≡ int_sum (take l.number-index l.numbers);
   low : neg_ℤ (pos (2 ^ 31 * l.number-index)) ≤ℤ l.total;
-  high : l.total ≤ℤ pos (2 ^ 31 * l.number-index)
-  }
+  high : l.total ≤ℤ pos (2 ^ 31 * l.number-index);
+}
