@@ -1,5 +1,5 @@
 -- Testing that edges rise, and how many of rising edges a number reaches.
-use Rattle.std.proofs.Common.{◌≡◌, ℕ, zero, suc, ◌+◌, ◌≤◌, ◌<◌, ℤ, pos, Bool, true, false, ◌&&◌, cond, List, [], ◌∷◌, length, get_or, ◌⊎◌, inl, inr, refl, sym, ◌∙◌, ap, subst, add-one, arith}
+use Rattle.std.proofs.Common.{◌≡◌, ℕ, zero, suc, ◌+◌, ◌≤◌, ◌<◌, ℤ, pos, Bool, true, false, ◌&&◌, cond, List, [], ◌∷◌, length, get_or, inl, inr, refl, sym, subst, add-one, arith}
 use Rattle.std.specs.Prelude.{count_by, int_le, int_lt}
 use Rattle.std.specs.List.{list_all, AllWithin, AllAdjacentBelow, IsAllAdjacentAnswer}
 use Rattle.std.specs.List.Sorted.{IsPartitionedBy}

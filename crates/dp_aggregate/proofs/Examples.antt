@@ -1,18 +1,17 @@
 -- Values, stability maps and refusals of small examples, computed.
-use Rattle.std.proofs.Common.{◌≡◌, ℕ, ◌*◌, ◌-◌, ◌^◌, Bool, true, false, ℤ, pos, negsuc, List, [], ◌∷◌, Option, Some, None, Ok, Err, refl}
+use Rattle.std.proofs.Common.{◌≡◌, ◌*◌, ◌-◌, ◌^◌, false, pos, negsuc, [], ◌∷◌, Some, None, Err, refl}
 use Rattle.std.specs.Int.{div_ceil}
 use Rattle.dp_num.specs.Limits.{capped}
 use Rattle.dp_domain.specs.declared.domains.Domain.TheVariants as domain
 use Rattle.dp_domain.specs.declared.metrics.Metric.TheVariants as metrics
 use Rattle.dp_domain.specs.Sums.{int_sum}
 use Rattle.dp_law.specs.declared.refusals.Refused.TheVariants as refused
-use Rattle.dp_aggregate.specs.AtLeast.{at_least_from}
 use Rattle.dp_aggregate.specs.Count.{count_from}
 use Rattle.dp_aggregate.specs.Edges.{edges_reached, is_rising}
-use Rattle.dp_aggregate.specs.Histogram.{histogram, histogram_factor, histogram_from}
-use Rattle.dp_aggregate.specs.Quantise.{quantised, quantise_from}
+use Rattle.dp_aggregate.specs.Histogram.{histogram, histogram_factor}
+use Rattle.dp_aggregate.specs.Quantise.{quantised}
 use Rattle.dp_aggregate.specs.Resize.{in_order, resized, resize_from}
-use Rattle.dp_aggregate.specs.Sum.{sum_factor, sum_low, sum_high, sum_from}
+use Rattle.dp_aggregate.specs.Sum.{sum_factor, sum_low}
 
 cut : resized 2 (pos 0) (pos 9 ∷ pos 3 ∷ pos 7 ∷ []) ≡ pos 3 ∷ pos 7 ∷ []
 unfolding resized in_order

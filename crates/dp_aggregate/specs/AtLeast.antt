@@ -1,5 +1,5 @@
 -- Telling which edges a number reaches.
-use Rattle.std.specs.Prelude.{ℕ, ℤ, ◌+◌, ◌^◌, min, List, length, Some, Result, Err}
+use Rattle.std.specs.Prelude.{ℤ, ◌+◌, ◌^◌, min, List, length, Some, Result, Err}
 use Rattle.dp_domain.specs.declared.domains.Domain.{Domain}
 use Rattle.dp_domain.specs.declared.domains.Domain.TheVariants as domain
 use Rattle.dp_domain.specs.declared.metrics.Metric.{Metric}

@@ -1,6 +1,6 @@
 -- Telling which edges a number reaches is stable.
-use Rattle.std.proofs.Common.{◌≡◌, ℕ, ◌+◌, ◌^◌, ◌≤◌, ◌<◌, min, ℤ, ◌-ℤ◌, Bool, true, false, IsTrue, ◌&&◌, List, length, Some, Option, ◌⊎◌, inl, inr, refl, sym, ◌∙◌, ap, subst, arith}
-use Rattle.std.specs.Prelude.{nat_abs, nat_le, int_le, count_by}
+use Rattle.std.proofs.Common.{◌≡◌, ℕ, ◌+◌, ◌^◌, ◌≤◌, min, ℤ, ◌-ℤ◌, Bool, IsTrue, ◌&&◌, List, length, Some, Option, inl, inr, ap, arith}
+use Rattle.std.specs.Prelude.{nat_abs, nat_le, int_le}
 use Rattle.std.specs.List.{list_all}
 use Rattle.std.proofs.lemmas.Int.{ints}
 use Rattle.std.proofs.lemmas.Bool.{cases_lt}

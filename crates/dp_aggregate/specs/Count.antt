@@ -1,5 +1,5 @@
 -- Counting the elements of a list.
-use Rattle.std.specs.Prelude.{ℕ, pos, ◌^◌, ◌&&◌, Bool, true, false, Result, Err, length, if◌then◌else◌}
+use Rattle.std.specs.Prelude.{pos, ◌^◌, ◌&&◌, Bool, true, false, Result, Err, length, if◌then◌else◌}
 use Rattle.dp_num.specs.Limits.{capped}
 use Rattle.dp_domain.specs.declared.domains.Domain.{Domain}
 use Rattle.dp_domain.specs.declared.domains.Domain.TheVariants as domain

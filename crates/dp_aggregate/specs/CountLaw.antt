@@ -1,5 +1,5 @@
 -- Counting is stable.
-use Rattle.std.proofs.Common.{◌≡◌, ℕ, pos, ◌+◌, ◌-◌, ◌≤◌, ◌^◌, ◌-ℤ◌, IsTrue, List, length, Option, Some, None, subst, arith}
+use Rattle.std.proofs.Common.{ℕ, pos, ◌≤◌, ◌^◌, ◌-ℤ◌, IsTrue, length, Some, None, subst, arith}
 use Rattle.std.specs.Prelude.{nat_abs, nat_eq}
 use Rattle.std.specs.Ordering.{int_eq}
 use Rattle.std.proofs.lemmas.Int.{ints}

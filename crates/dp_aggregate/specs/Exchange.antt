@@ -1,12 +1,12 @@
 -- The exchange law: putting one element into a list, at any place, replaces at most one of its first n elements.
-use Rattle.std.proofs.Common.{◌≡◌, ℕ, zero, suc, ◌+◌, ◌-◌, ◌≤◌, ◌<◌, Bool, List, [], ◌∷◌, ◌++◌, length, take, get_or, ◌⊎◌, inl, inr, refl, sym, ◌∙◌, ap, subst, append_assoc, arith}
+use Rattle.std.proofs.Common.{◌≡◌, ℕ, suc, ◌+◌, ◌-◌, ◌≤◌, ◌<◌, Bool, List, [], ◌∷◌, ◌++◌, length, take, get_or, inl, inr, sym, ◌∙◌, ap, arith}
 use Rattle.std.specs.Prelude.{Decides}
 use Rattle.std.proofs.Math.Seq.{take-suc, take-append-add}
 use Rattle.std.proofs.lemmas.Bool.{cases_lt}
 use Rattle.std.proofs.lemmas.List.{take-append-le}
 use Rattle.std.proofs.lemmas.List.Sorted.{IsPermutation-refl}
-use Rattle.dp_domain.specs.Distance.{occurrences, diff}
-use Rattle.dp_domain.proofs.Occurrences.{one, occurrences-cons, occurrences-append}
+use Rattle.dp_domain.specs.Distance.{diff}
+use Rattle.dp_domain.proofs.Occurrences.{occurrences-cons, occurrences-append}
 use Rattle.dp_domain.proofs.Distance.{diff-le-parts, diff-order}
 
 module _ {E : Type 0} (same : E → E → Bool) (told : (x y : E) → Decides (same x y) (x ≡ y)) where

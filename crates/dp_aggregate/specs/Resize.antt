@@ -1,5 +1,5 @@
 -- Cutting and padding a list to a size.
-use Rattle.std.specs.Prelude.{ℕ, ℤ, ◌-◌, ◌^◌, ◌&&◌, Bool, cond, List, [], ◌∷◌, ◌++◌, length, take, replicate, Option, Some, None, Result, Err, nat_le, int_le}
+use Rattle.std.specs.Prelude.{ℕ, ℤ, ◌-◌, ◌^◌, ◌&&◌, Bool, cond, List, [], ◌∷◌, ◌++◌, length, take, replicate, Some, None, Result, Err, nat_le, int_le}
 use Rattle.dp_num.specs.Limits.{capped}
 use Rattle.dp_domain.specs.declared.domains.Domain.{Domain}
 use Rattle.dp_domain.specs.declared.domains.Domain.TheVariants as domain

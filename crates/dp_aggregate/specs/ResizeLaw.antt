@@ -1,5 +1,5 @@
 -- Resizing is stable.
-use Rattle.std.proofs.Common.{◌≡◌, ℕ, zero, suc, ◌+◌, ◌-◌, ◌*◌, ◌^◌, ◌≤◌, ◌<◌, min, ℤ, ◌≤ℤ◌, Bool, true, IsTrue, List, [], ◌∷◌, ◌++◌, length, take, replicate, Option, Some, None, refl, sym, ◌∙◌, ap, subst, inl, inr, append_assoc, arith, length-append, length-take}
+use Rattle.std.proofs.Common.{◌≡◌, ℕ, ◌+◌, ◌-◌, ◌*◌, ◌^◌, ◌≤◌, ℤ, Bool, true, IsTrue, List, [], ◌∷◌, ◌++◌, length, take, replicate, Some, None, sym, ◌∙◌, ap, inl, inr, append_assoc, arith, length-append, length-take}
 use Rattle.std.specs.Prelude.{All, int_le, nat_le, ◌&&◌}
 use Rattle.std.specs.Ordering.{int_eq}
 use Rattle.std.specs.List.Sorted.{IsPermutation}
@@ -23,7 +23,7 @@ use Rattle.dp_law.specs.Mapping.{IsStable}
 use Rattle.dp_law.proofs.Caps.{capped-same, capped-le}
 use Rattle.dp_aggregate.specs.Exchange.{exchange}
 use Rattle.dp_aggregate.specs.Resize.{put_in, in_order, resized, resize_value, can_resize, resize_mapping}
-use Rattle.dp_aggregate.specs.RisingOrder.{PutAt, put-at, in_order-permutes, in_order-same, length-in_order}
+use Rattle.dp_aggregate.specs.RisingOrder.{put-at, in_order-permutes, in_order-same, length-in_order}
 
 -- the first numbers of the rising order with fill behind it
 first_of : ℕ → ℤ → List ℤ → List ℤ

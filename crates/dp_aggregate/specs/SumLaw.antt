@@ -1,5 +1,5 @@
 -- Adding is stable.
-use Rattle.std.proofs.Common.{◌≡◌, ℕ, zero, suc, ◌+◌, ◌*◌, ◌^◌, ◌≤◌, ◌<◌, max, ℤ, pos, negsuc, neg_ℤ, ◌+ℤ◌, ◌-ℤ◌, ◌*ℤ◌, ◌≤ℤ◌, List, [], ◌∷◌, length, fold, Option, Some, None, refl, sym, ◌∙◌, ap, subst, arith}
+use Rattle.std.proofs.Common.{◌≡◌, ℕ, zero, suc, ◌*◌, ◌^◌, ◌≤◌, max, ℤ, pos, negsuc, neg_ℤ, ◌+ℤ◌, ◌-ℤ◌, ◌*ℤ◌, ◌≤ℤ◌, List, [], ◌∷◌, length, fold, Option, Some, None, subst, arith}
 use Rattle.std.specs.Prelude.{nat_abs, All}
 use Rattle.std.specs.Int.{int_min, int_max}
 use Rattle.std.specs.Ordering.{int_eq}
@@ -14,7 +14,7 @@ use Rattle.dp_domain.specs.declared.values.Value.TheVariants as value
 use Rattle.dp_domain.specs.Distance.{diff}
 use Rattle.dp_domain.specs.Domains.{Fits, Has, IsBetween}
 use Rattle.dp_domain.specs.Metrics.{Within}
-use Rattle.dp_domain.specs.Sums.{int_sum, int_sum_by}
+use Rattle.dp_domain.specs.Sums.{int_sum}
 use Rattle.dp_domain.proofs.Equality.{int_eq-decides}
 use Rattle.dp_domain.proofs.WeightedSums.{sums-apart, even-sums-apart}
 use Rattle.dp_law.specs.Making.{list_metric}

@@ -1,4 +1,4 @@
-use Rattle.std.proofs.Common.{◌≡◌, ℕ, ◌<◌, ◌≤◌, ◌+◌, List, pos, get_or, length, take, ap, ◌∙◌, sym, refl, rules, arith, vec_len}
+use Rattle.std.proofs.Common.{ℕ, ◌<◌, List, pos, get_or, ap, ◌∙◌, arith}
 use Rattle.std.specs.Prelude.{nat_eq}
 use Rattle.std.proofs.lemmas.Int.{ints}
 use Rattle.std.proofs.lemmas.List.{get_or_read, take_all}

@@ -1,4 +1,4 @@
-use Rattle.std.proofs.Common.{◌≡◌, ℕ, ◌<◌, get_or, length, take, pos, vec_len}
+use Rattle.std.proofs.Common.{◌≡◌, ℕ, ◌<◌, get_or, take, pos, vec_len}
 use Rattle.std.specs.Prelude.{nat_eq}
 use Rattle.dp_domain.specs.Distance.{occurrences}
 use Rattle.dp_aggregate.proofs.frequencies.count_each.Given as goal

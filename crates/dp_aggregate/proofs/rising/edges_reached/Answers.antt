@@ -1,8 +1,8 @@
-use Rattle.std.proofs.Common.{◌≡◌, ◌^◌, ℕ, ◌≤◌, length, true, rules, arith}
+use Rattle.std.proofs.Common.{◌≡◌, ◌^◌, length, true, rules}
 use Rattle.std.specs.Prelude.{int_le, nat_le}
 use Rattle.std.specs.List.{list_all}
 use Rattle.std.proofs.lemmas.List.Sorted.{IsPartitionPoint-from_clause}
-use Rattle.dp_aggregate.specs.Edges.{is_within, is_rising, edges_reached}
+use Rattle.dp_aggregate.specs.Edges.{is_within, is_rising}
 use Rattle.dp_aggregate.proofs.EdgeTests.{rising-parted, count-parted, edges-rise}
 use Rattle.dp_aggregate.proofs.rising.edges_reached.Goals as goal
 

@@ -1,4 +1,4 @@
-use Rattle.std.proofs.Common.{arith, pos, get_or, ◌+ℤ◌}
+use Rattle.std.proofs.Common.{arith, pos}
 use Rattle.std.proofs.lemmas.Int.{ints, to_z-of_z}
 use Rattle.std.proofs.lemmas.List.Sums.{fold_more}
 use Rattle.dp_aggregate.proofs.summing.add_all.Goals as goal
