@@ -1,0 +1,4 @@
+pub mod Choosing
+pub mod PlaceLaws
+pub mod ShareLaws
+pub mod WeightLaws

@@ -1,0 +1,2 @@
+//! Weighted choice among the cells of a vector.
+#![tactic(auto)]
