@@ -1,3 +1,6 @@
 pub mod Caps
+pub mod Equality
 pub mod JoiningLaw
 pub mod Landing
+pub mod Taking
+pub mod Units

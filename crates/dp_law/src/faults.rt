@@ -1,6 +1,7 @@
 ghost use Rattle.std.specs.Prelude.{◌≡◌};
 
 use dp_count::NoMemory;
+use std::alloc::AllocError;
 
 /// Why nothing is released.
 #[derive(Clone, Copy, Debug, PartialEq, Eq)]
@@ -18,6 +19,17 @@ impl From<NoMemory> for ReleaseFault {
     ghost from_gives = { λ _ made. made ≡ fault.NoMemory };
 
     fn from(_: NoMemory) -> Self {
+        ReleaseFault::NoMemory
+    }
+}
+
+impl From<AllocError> for ReleaseFault {
+    ghost use Rattle.std.specs.Prelude.{◌≡◌};
+    ghost use Rattle.dp_law.specs.declared.faults.ReleaseFault.TheVariants as fault;
+
+    ghost from_gives = { λ _ made. made ≡ fault.NoMemory };
+
+    fn from(_: AllocError) -> Self {
         ReleaseFault::NoMemory
     }
 }

@@ -1,0 +1,5 @@
+use Rattle.dp_response.specs.ResponseLaw.{response_ways}
+use Rattle.dp_response.proofs.laws.ways_law.Goals as goal
+
+pub returns : goal.returns
+returns c = response_ways

@@ -1,0 +1,3 @@
+pub mod Response
+pub mod ResponseLaw
+pub mod ResponseWays

@@ -1,0 +1,17 @@
+//! The law of randomised response, as the contract of a function that does nothing.
+ghost use Rattle.dp_response.specs.ResponseWays.{WaysLaw};
+
+/// How many draws give each answer: q^u the true value, p^u each other value of the domain, and none anything else.
+pub fn ways_law()
+    ensures { WaysLaw }
+{}
+
+#[cfg(test)]
+mod tests {
+    use super::*;
+
+    #[test]
+    fn the_law_can_be_cited(_rt: HostRuntime) {
+        ways_law();
+    }
+}
