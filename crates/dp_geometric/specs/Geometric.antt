@@ -73,10 +73,18 @@ geometric_with input p q u lo hi (Some both) = if is_answer_range lo hi
     then Ok (geometric input p q u lo hi both.0 both.1)
     else Err refused.Bound
 
+-- the refusal by the domain's kind and the metric, if there is one
+abbrev pub kind_refusal : Domain → Metric → Option Refused
+kind_refusal (domain.Int least most) metrics.Absolute = None
+kind_refusal (domain.Int least most) metric = Some refused.Metric
+kind_refusal (domain.IntVec len least most) metrics.L1 = None
+kind_refusal (domain.IntVec len least most) metric = Some refused.Metric
+kind_refusal _ metric = Some refused.Kind
+
+abbrev pub geometric_unless : Option Refused → Domain → ℕ → ℕ → ℕ → ℤ → ℤ → Result Mechanism Refused
+geometric_unless (Some refusal) input p q u lo hi = Err refusal
+geometric_unless None input p q u lo hi = geometric_with input p q u lo hi (powers p q u)
+
 -- what geometric noise is on a domain and a metric
 abbrev pub geometric_from : ℕ → ℕ → ℕ → ℤ → ℤ → Domain → Metric → Result Mechanism Refused
-geometric_from p q u lo hi (domain.Int least most) metrics.Absolute = geometric_with (domain.Int least most) p q u lo hi (powers p q u)
-geometric_from p q u lo hi (domain.Int least most) metric = Err refused.Metric
-geometric_from p q u lo hi (domain.IntVec len least most) metrics.L1 = geometric_with (domain.IntVec len least most) p q u lo hi (powers p q u)
-geometric_from p q u lo hi (domain.IntVec len least most) metric = Err refused.Metric
-geometric_from p q u lo hi _ metric = Err refused.Kind
+geometric_from p q u lo hi input metric = geometric_unless (kind_refusal input metric) input p q u lo hi

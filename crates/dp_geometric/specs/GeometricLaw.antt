@@ -155,10 +155,10 @@ noise-whole (domain.IntVec len least most) lo hi low high v draws numeric has = 
 noise-whole input lo hi low high v draws numeric has = absurd (cc)
 
 -- lengths and bounds of the shapes
-length-cell : (lo hi : ℤ) (low high : ℕ) → length (cell_shape lo hi low high) ≡ 1 + width lo hi
+pub length-cell : (lo hi : ℤ) (low high : ℕ) → length (cell_shape lo hi low high) ≡ 1 + width lo hi
 length-cell lo hi low high = let tail = length-replicate (width lo hi) high in omega arith
 
-length-cells : (n : ℕ) (lo hi : ℤ) (low high : ℕ) → length (cells_shape n lo hi low high) ≡ n * (1 + width lo hi)
+pub length-cells : (n : ℕ) (lo hi : ℤ) (low high : ℕ) → length (cells_shape n lo hi low high) ≡ n * (1 + width lo hi)
 unfolding cells_shape
 length-cells zero lo hi low high = omega arith
 length-cells (suc n) lo hi low high =
@@ -166,7 +166,7 @@ length-cells (suc n) lo hi low high =
     let one = length-cell lo hi low high in
     rw (length-append, suc-mul) (omega arith)
 
-narrow-width : (lo hi : ℤ) → lo ≤ℤ hi → (hi -ℤ lo) ≤ℤ pos 65535 → width lo hi ≤ 65535
+pub narrow-width : (lo hi : ℤ) → lo ≤ℤ hi → (hi -ℤ lo) ≤ℤ pos 65535 → width lo hi ≤ 65535
 narrow-width lo hi h k = omega (arith, ints)
 
 shape-few : (input : Domain) (lo hi : ℤ) (low high : ℕ) → Fits input → width lo hi ≤ 65535 → length (noise_shape input lo hi low high) ≤ 2 ^ 40
