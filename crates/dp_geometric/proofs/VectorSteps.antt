@@ -51,7 +51,8 @@ one-more lo hi low high z x zs done d (Some e) same is =
 taken-more : (step : List ℕ → ℕ → Turn) (state draws : List ℕ) (n : ℕ) (lo hi : ℤ) (low high : ℕ) → (take_draws step state (cell_shape lo hi low high)).draws ≡ Some draws →
     cells_taken step state (suc n) lo hi low high ≡ record {
       draws = option_map (λ more. draws ++ more) (cells_taken step (take_draws step state (cell_shape lo hi low high)).last n lo hi low high).draws;
-      last = (cells_taken step (take_draws step state (cell_shape lo hi low high)).last n lo hi low high).last }
+      last = (cells_taken step (take_draws step state (cell_shape lo hi low high)).last n lo hi low high).last;
+    }
 taken-more step state draws n lo hi low high taken =
     ap (λ s. take_draws step state s) (cells_shape-more n lo hi low high) ∙ take_draws-append-some step state (cell_shape lo hi low high) (cells_shape n lo hi low high) draws taken
 

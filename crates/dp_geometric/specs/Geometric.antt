@@ -59,8 +59,8 @@ geometric input p q u lo hi low high = record {
   shape = noise_shape input lo hi low high;
   function = add_noise lo hi low high;
   pieces = 1;
-  privacy_map = λ d. capped (u * d)
-  }
+  privacy_map = λ d. capped (u * d);
+}
 
 -- the answers' bounds are in order, from -2 ^ 61 to 2 ^ 61, and at most 65,535 apart
 abbrev pub is_answer_range : ℤ → ℤ → Bool

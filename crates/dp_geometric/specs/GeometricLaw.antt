@@ -199,5 +199,5 @@ geometric_law input lo hi p q u low high fits numeric ratio lows highs order nar
   few_pieces = omega arith;
   whole = λ v draws has f. noise-whole input lo hi low high v draws numeric has;
   limited = λ d k map_is. capped-le (u * d) k map_is;
-  private = λ d k v w answer map_is has_v has_w near. private-at input lo hi p q u low high d k v w answer numeric order below lows highs (capped-same (u * d) k map_is) has_v has_w near
-  }
+  private = λ d k v w answer map_is has_v has_w near. private-at input lo hi p q u low high d k v w answer numeric order below lows highs (capped-same (u * d) k map_is) has_v has_w near;
+}

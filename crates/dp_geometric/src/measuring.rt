@@ -221,9 +221,7 @@ fn release_vector<D: Draws>(
     let Ok(()) = step_each(cell, numbers, &mut given, draws) else {
         return Err(ReleaseFault::DrawFault);
     };
-    answer
-        .push(Piece::IntVec(Cells::from_vec(given)))
-        .unwrap();
+    answer.push(Piece::IntVec(Cells::from_vec(given))).unwrap();
     Ok(Answer::from_vec(answer))
 }
 
@@ -245,4 +243,125 @@ fn step_each<D: Draws>(
         given.push(answer).unwrap();
     }
     Ok(())
+}
+
+#[cfg(test)]
+mod tests {
+    use super::*;
+    use dp_draws::Replay;
+    use std::test::Fail;
+
+    const CELLS: Domain = Domain::IntVec {
+        len: 2,
+        lo: 0,
+        hi: 5,
+    };
+
+    /// Geometric noise for the ratio 1/2, where the domain fits.
+    fn geometric(
+        domain: Domain,
+        metric: Metric,
+        u: u64,
+        lo: i64,
+        hi: i64,
+    ) -> Result<Geometric, Refused> {
+        let Ok(ratio) = Ratio::new(1, 2) else {
+            return Err(Refused::Bound);
+        };
+        if !domain.fits() {
+            return Err(Refused::Bound);
+        }
+        Geometric::new(domain, metric, ratio, u, lo, hi)
+    }
+
+    /// What a measurement releases on a value of its domain, from these draws.
+    fn released<M: Measurement, const N: usize>(
+        alloc: Global,
+        m: &M,
+        v: &Value,
+        draws: [u64; N],
+    ) -> Result<Answer, ReleaseFault> {
+        if !m.in_domain().fits() || !m.in_domain().has(v) {
+            return Err(ReleaseFault::NoMemory);
+        }
+        let Ok(draws) = Vec::from_array(alloc, draws) else {
+            return Err(ReleaseFault::NoMemory);
+        };
+        m.release(alloc, v, &mut Replay::new(draws))
+    }
+
+    #[test]
+    fn each_cell_of_a_vector_takes_its_own_draws(rt: HostRuntime) -> Result<(), Fail> {
+        let made = geometric(CELLS, Metric::L1, 1, 0, 1).expect(&rt, "made");
+        let shape = made.shape(rt.alloc()).expect(&rt, "memory");
+        assert_eq!(rt; (shape.len(), made.draws(), made.pieces()), (4, 4, 1));
+        for (k, bound) in [(0, 3), (1, 2), (2, 3), (3, 2)] {
+            assert!(rt; k < shape.len());
+            assert_eq!(rt; shape.at(k), bound);
+        }
+        let value = Value::IntVec(Cells::from_vec(Vec::from_array(rt.alloc(), [0, 0])?));
+        let answer = released(rt.alloc(), &made, &value, [1, 1, 2, 0]).expect(&rt, "released");
+        assert_eq!(rt; answer.len(), 1);
+        assert!(rt; matches!(answer.at(0), Piece::IntVec(cells) if cells.as_slice() == [1, 0].as_slice()));
+        Ok(())
+    }
+
+    #[test]
+    fn a_number_is_one_cell(rt: HostRuntime) -> Result<(), Fail> {
+        let made = geometric(Domain::Int { lo: 0, hi: 5 }, Metric::Absolute, 1, 0, 1).expect(
+            &rt, "made",
+        );
+        assert!(rt; made.in_metric() == Metric::Absolute);
+        let answer = released(rt.alloc(), &made, &Value::Int(0), [1, 1]).expect(&rt, "released");
+        assert_eq!(rt; answer.len(), 1);
+        assert!(rt; matches!(answer.at(0), Piece::Int(1)));
+        assert!(rt;
+            matches!(
+                released(rt.alloc(), &made, &Value::Int(0), [1]),
+                Err(ReleaseFault::DrawFault)
+            )
+        );
+        Ok(())
+    }
+
+    #[test]
+    fn each_step_of_distance_costs_u_units(rt: HostRuntime) {
+        let made = geometric(CELLS, Metric::L1, 1, 0, 1).expect(&rt, "made");
+        assert_eq!(rt; made.loss(3), Ok(3));
+        let twice = geometric(CELLS, Metric::L1, 2, 0, 1).expect(&rt, "made");
+        assert_eq!(rt; twice.loss(2_147_483_648), Ok(4_294_967_296));
+        assert_eq!(rt; twice.loss(2_147_483_649), Err(Past));
+    }
+
+    #[test]
+    fn kind_metric_and_bound_are_refused(rt: HostRuntime) {
+        for (domain, metric, u, lo, hi, refusal) in [
+            (Domain::Texts, Metric::L1, 1, 0, 1, Refused::Kind),
+            (
+                Domain::Cat { n: 2 },
+                Metric::Discrete,
+                0,
+                1,
+                0,
+                Refused::Kind,
+            ),
+            (CELLS, Metric::Absolute, 0, 1, 0, Refused::Metric),
+            (
+                Domain::Int { lo: 0, hi: 5 },
+                Metric::L1,
+                1,
+                0,
+                1,
+                Refused::Metric,
+            ),
+            (CELLS, Metric::L1, 0, 0, 1, Refused::Bound),
+            (CELLS, Metric::L1, 62, 0, 1, Refused::Bound),
+            (CELLS, Metric::L1, 1, 1, 0, Refused::Bound),
+            (CELLS, Metric::L1, 1, 0, 65_536, Refused::Bound),
+        ] {
+            assert!(rt;
+                matches!(geometric(domain, metric, u, lo, hi), Err(given) if given == refusal)
+            );
+        }
+    }
 }
