@@ -1,3 +1,6 @@
+pub mod Choice
+pub mod ChoiceLaw
+pub mod ChoiceWays
 pub mod Choosing
 pub mod PlaceLaws
 pub mod ShareLaws

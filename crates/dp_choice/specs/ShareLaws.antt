@@ -8,7 +8,7 @@ one-le-product : (a b : ℕ) → 1 ≤ a → 1 ≤ b → 1 ≤ a * b
 one-le-product a b h k = let wide = mul-le-mul_left a k in omega arith
 
 -- the weight condition, at any weight w from the first on and any sum of at most so many greatest weights
-room : (n first w most total p q : ℕ) → first ≤ w → p ≤ q → total ≤ most → n * first * p + most * (q + p) ≤ n * first * q → n * w * p + total * (q + p) ≤ n * w * q
+pub room : (n first w most total p q : ℕ) → first ≤ w → p ≤ q → total ≤ most → n * first * p + most * (q + p) ≤ n * first * q → n * w * p + total * (q + p) ≤ n * w * q
 room n first w most total p q h k l fits =
     let more = mul-le-mul_left (n * (w - first)) k in
     let few = mul-le-mul_right (q + p) l in

@@ -1,5 +1,5 @@
 -- Geometric noise is private, on a number and on a vector.
-use Rattle.std.proofs.Common.{◌≡◌, ℕ, zero, suc, ◌+◌, ◌*◌, ◌^◌, ◌≤◌, ◌<◌, ℤ, ◌-ℤ◌, ◌≤ℤ◌, nat_abs, pos, Bool, true, false, ◌&&◌, List, [], ◌∷◌, ◌++◌, length, replicate, map, Some, refl, sym, ◌∙◌, ap, subst, arith, length-append}
+use Rattle.std.proofs.Common.{◌≡◌, ℕ, zero, suc, ◌+◌, ◌*◌, ◌^◌, ◌≤◌, ◌<◌, ℤ, ◌-ℤ◌, ◌≤ℤ◌, nat_abs, pos, true, List, [], ◌∷◌, ◌++◌, length, replicate, map, refl, sym, ◌∙◌, ap, subst, arith, length-append}
 use Rattle.std.specs.List.{sum}
 use Rattle.std.specs.Prelude.{All, zip}
 use Rattle.std.specs.Ordering.{int_eq}
@@ -10,15 +10,14 @@ use Rattle.std.proofs.lemmas.List.Sums.{sum_by-cons}
 use Rattle.std.proofs.lemmas.List.Elements.{All-append, All-cons, All-nil, All-replicate}
 use Rattle.std.proofs.Math.Bool.{and-false, and-true}
 use Rattle.std.proofs.Math.Nat.{mul-le-mul, suc-mul}
-use Rattle.dp_count.specs.DrawLists.{count, IsDrawList}
+use Rattle.dp_count.specs.DrawLists.{count}
 use Rattle.dp_count.specs.Ratios.{KeepsRatio}
-use Rattle.dp_count.specs.Slots.{Slot, joined_shape, replies, SlotsKeepRatios}
+use Rattle.dp_count.specs.Slots.{joined_shape, replies, SlotsKeepRatios}
 use Rattle.dp_count.proofs.Counting.{count-same, count-never}
 use Rattle.dp_count.proofs.Ratios.{ratio-more, ratio-none, ratio-powers}
 use Rattle.dp_count.proofs.Slots.{replies-ratio}
-use Rattle.dp_num.specs.Limits.{capped}
 use Rattle.dp_domain.specs.Distance.{l1}
-use Rattle.dp_domain.specs.Domains.{Fits, Has, IsBetween}
+use Rattle.dp_domain.specs.Domains.{Fits, Has}
 use Rattle.dp_domain.specs.Metrics.{Within}
 use Rattle.dp_domain.specs.declared.domains.Domain.{Domain}
 use Rattle.dp_domain.specs.declared.domains.Domain.TheVariants as domain

@@ -302,7 +302,9 @@ mod tests {
         let value = Value::IntVec(Cells::from_vec(Vec::from_array(rt.alloc(), [0, 0])?));
         let answer = released(rt.alloc(), &made, &value, [1, 1, 2, 0]).expect(&rt, "released");
         assert_eq!(rt; answer.len(), 1);
-        assert!(rt; matches!(answer.at(0), Piece::IntVec(cells) if cells.as_slice() == [1, 0].as_slice()));
+        assert!(rt;
+            matches!(answer.at(0), Piece::IntVec(cells) if cells.as_slice() == [1, 0].as_slice())
+        );
         Ok(())
     }
 

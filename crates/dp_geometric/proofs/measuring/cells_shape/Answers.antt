@@ -1,4 +1,4 @@
-use Rattle.std.proofs.Common.{◌≡◌, ◌≤◌, ◌+◌, ◌*◌, ◌++◌, suc, length, sym, ap, ◌∙◌, refl, arith, add-one}
+use Rattle.std.proofs.Common.{◌≡◌, ◌≤◌, ◌+◌, ◌*◌, ◌++◌, length, ap, ◌∙◌, refl, arith, add-one}
 use Rattle.std.proofs.Math.Nat.{mul-le-mul}
 use Rattle.dp_geometric.specs.OneCell.{width, cell_shape}
 use Rattle.dp_geometric.specs.Geometric.{cells_shape}

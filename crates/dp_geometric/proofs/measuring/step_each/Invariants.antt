@@ -1,4 +1,4 @@
-use Rattle.std.proofs.Common.{◌≤◌, ◌+◌, length, drop}
+use Rattle.std.proofs.Common.{◌≤◌, length, drop}
 use Rattle.std.specs.Prelude.{vec_capacity}
 use Rattle.dp_geometric.proofs.VectorSteps.{VectorForward}
 use Rattle.dp_geometric.proofs.measuring.step_each.Given as goal

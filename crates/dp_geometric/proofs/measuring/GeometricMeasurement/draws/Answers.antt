@@ -1,6 +1,6 @@
 use Rattle.std.proofs.Common.{length, sym, ap, ◌∙◌}
 use Rattle.dp_domain.specs.declared.domains.Domain.{Domain}
-use Rattle.dp_geometric.specs.Geometric.{cells_shape, noise_shape}
+use Rattle.dp_geometric.specs.Geometric.{noise_shape}
 use Rattle.dp_geometric.specs.GeometricLaw.{length-cells}
 use Rattle.dp_geometric.proofs.measuring.GeometricMeasurement.draws.Goals as goal
 
