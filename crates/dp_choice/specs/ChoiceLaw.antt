@@ -91,7 +91,7 @@ place-near n first len p q u d floor top low high xs ys j a order b c lows highs
     let both = ratio-both low high d d _ _ _ _ front back in
     let in_units : KeepsRatio p q (u * (d + d)) (slice_index ws j * sum vs) (slice_index vs j * sum ws) = ratio-powers p q u (d + d) _ _ (rw (← lows, ← highs) both) in
     let least = cell-least first low high floor top ys j b c (omega arith) in
-    let most : sum vs ≤ len * weight first low high (nat_abs (top -ℤ floor)) = rw same_y at weights-most first low high floor top ys b c f in
+    let most : sum vs ≤ len * weight first low high (nat_abs (top -ℤ floor)) = subst (λ (m : ℕ). sum vs ≤ m * weight first low high (nat_abs (top -ℤ floor))) same_y (weights-most first low high floor top ys b c f) in
     let left = room n first (slice_index vs j) (len * weight first low high (nat_abs (top -ℤ floor))) (sum vs) p q least order most fits in
     share-ratio (place_ways n ws j) (place_ways n vs j) n (slice_index ws j) (slice_index vs j) (sum ws) (sum vs) p q (u * (d + d)) pos_w pos_v order
     (omega (arith, share_w.most)) (omega (arith, share_v.least)) in_units left
@@ -134,10 +134,6 @@ answer-private n first len p q u d floor top low high xs ys (piece.Cat j ∷ [])
     place-private (ltb j len) n first len p q u d floor top low high xs ys j refl a order b c lows highs f fits some same_x same_y near
 
 -- at the distance 0 the vectors are the same
-loss-zero : (d k : ℕ) (t : Bool) (rest : Option ℕ) → eqb d 0 ≡ t → cond t (Some 0) rest ≡ Some k → t ≡ true → (d ≡ 0) × (k ≡ 0)
-loss-zero d k true rest e is same = (grind (arith, nat_tests), cc)
-loss-zero d k false rest e is same = absurd (cc)
-
 vectors-private : (zero_apart : Bool) (n first len : ℕ) (lo hi : ℤ) (p q u : ℕ) (floor top : ℤ) (low high d k : ℕ) (xs ys : List ℤ) (answer : List Piece) → eqb d 0 ≡ zero_apart → cond zero_apart (Some 0) (capped (2 * u * d + 1)) ≡ Some k →
     1 ≤ first → p ≤ q → 1 ≤ low → low ≤ high → low ≡ p ^ u → high ≡ q ^ u → floor ≤ℤ top → n * first * p + len * weight first low high (nat_abs (top -ℤ floor)) * (q + p) ≤ n * first * q →
     1 ≤ len → length xs ≡ len → length ys ≡ len → l1 xs ys ≤ d →

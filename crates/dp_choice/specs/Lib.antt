@@ -1,5 +1,6 @@
 pub mod Choice
 pub mod ChoiceLaw
+pub mod ChoicePrivacy
 pub mod ChoiceWays
 pub mod Choosing
 pub mod PlaceLaws
