@@ -1,5 +1,5 @@
 -- The test of equality tells equal answers from different ones.
-use Rattle.std.proofs.Common.{◌≡◌, ℕ, ℤ, Bool, true, false, List, refl, ap}
+use Rattle.std.proofs.Common.{◌≡◌, List, ap}
 use Rattle.std.specs.Prelude.{Decides}
 use Rattle.std.specs.Cmp.Lexicographic.{pointwise_decides}
 use Rattle.dp_domain.proofs.Equality.{nat_eq-decides, int_eq-decides}

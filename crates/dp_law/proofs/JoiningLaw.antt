@@ -1,14 +1,12 @@
 -- Two private measurements on one input, with one ratio, are private as one.
-use Rattle.std.proofs.Common.{◌≡◌, ℕ, ◌+◌, ◌*◌, ◌^◌, ◌≤◌, Bool, ◌&&◌, List, [], ◌∷◌, ◌++◌, length, take, drop, Option, Some, None, refl, sym, ◌∙◌, ap, subst, arith, length-append}
+use Rattle.std.proofs.Common.{◌≡◌, ℕ, ◌+◌, ◌*◌, ◌^◌, ◌≤◌, Bool, ◌&&◌, List, [], ◌∷◌, ◌++◌, length, take, drop, Option, Some, None, refl, sym, ◌∙◌, ap, subst, length-append}
 use Rattle.std.specs.Cmp.Lexicographic.{pointwise}
 use Rattle.std.proofs.Math.Bool.{and_assoc}
 use Rattle.std.proofs.lemmas.List.Elements.{All-append}
-use Rattle.dp_count.specs.DrawLists.{count, IsDrawList}
 use Rattle.dp_count.specs.Ratios.{KeepsRatio}
 use Rattle.dp_count.proofs.Counting.{count-append}
 use Rattle.dp_count.proofs.DrawLists.{take-draws, drop-draws, IsDrawList-take, IsDrawList-drop}
 use Rattle.dp_count.proofs.Ratios.{ratio-both}
-use Rattle.dp_num.specs.Limits.{capped}
 use Rattle.dp_domain.specs.declared.values.Value.{Value}
 use Rattle.dp_domain.specs.Domains.{Has}
 use Rattle.dp_domain.specs.Metrics.{Within}

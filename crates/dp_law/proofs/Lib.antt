@@ -1,5 +1,6 @@
 pub mod Caps
 pub mod Equality
+pub mod JoinedReleases
 pub mod JoiningLaw
 pub mod Landing
 pub mod Taking

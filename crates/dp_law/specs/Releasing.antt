@@ -1,7 +1,7 @@
 -- What a release leaves of its draw source.
-use Rattle.std.specs.Prelude.{◌≡◌, ℕ, ◌≤◌, List, ◌++◌, Option, Some, None, option_map, Result, Ok, Err}
+use Rattle.std.specs.Prelude.{◌≡◌, ℕ, ◌≤◌, List, ◌++◌, Some, None, option_map, Result, Ok, Err}
 use Rattle.dp_count.specs.Faults.{Rose}
-use Rattle.dp_draws.specs.Taking.{Turn, Taken, take_draws}
+use Rattle.dp_draws.specs.Taking.{Turn, take_draws}
 use Rattle.dp_law.specs.declared.pieces.Piece.{Piece}
 use Rattle.dp_law.specs.declared.faults.ReleaseFault.{ReleaseFault}
 use Rattle.dp_law.specs.declared.faults.ReleaseFault.TheVariants as fault

@@ -1,5 +1,5 @@
 -- Randomised response on the categories below n, with the numbers low and high of a ratio.
-use Rattle.std.specs.Prelude.{ℕ, ◌+◌, ◌-◌, ◌*◌, ◌/◌, ◌^◌, ◌==◌, min, List, [], ◌∷◌, Option, Some, None, Result, Ok, Err, if◌then◌else◌, nat_lt, nat_le}
+use Rattle.std.specs.Prelude.{ℕ, ◌+◌, ◌-◌, ◌*◌, ◌/◌, ◌^◌, min, List, [], ◌∷◌, Option, Some, None, Result, Ok, Err, if◌then◌else◌, nat_lt, nat_le}
 use Rattle.dp_num.specs.Limits.{capped, powers}
 use Rattle.dp_domain.specs.declared.domains.Domain.{Domain}
 use Rattle.dp_domain.specs.declared.domains.Domain.TheVariants as domain
@@ -44,8 +44,8 @@ response n p q u low high = record {
   shape = draw_bound n low high ∷ [];
   function = respond low high;
   pieces = 1;
-  privacy_map = λ d. capped (u * min d 1)
-  }
+  privacy_map = λ d. capped (u * min d 1);
+}
 
 -- the powers are there, and the bound of the draw is at most 2 ^ 62
 abbrev pub response_with : ℕ → ℕ → ℕ → ℕ → Option (ℕ × ℕ) → Result Mechanism Refused

@@ -1,6 +1,6 @@
 -- Randomised response is private.
-use Rattle.std.proofs.Common.{◌≡◌, ℕ, zero, suc, ◌+◌, ◌-◌, ◌*◌, ◌/◌, ◌^◌, ◌≤◌, ◌<◌, Bool, true, false, cond, ◌&&◌, List, [], ◌∷◌, Option, Some, min, refl, sym, ◌∙◌, ap, subst, arith, eqb, leb, ltb, ◌⊎◌, inl, inr, length}
-use Rattle.std.proofs.Math.Nat.{mul-le-mul_left, mul-le-mul_right, mul-le-mul, div-mul-le_self, lt-div-mul-add}
+use Rattle.std.proofs.Common.{◌≡◌, ℕ, suc, ◌+◌, ◌-◌, ◌*◌, ◌/◌, ◌^◌, ◌≤◌, ◌<◌, Bool, true, false, cond, ◌&&◌, List, [], ◌∷◌, min, refl, sym, ◌∙◌, subst, arith, eqb, leb, ltb, ◌⊎◌, inl, inr, length}
+use Rattle.std.proofs.Math.Nat.{mul-le-mul_left, mul-le-mul_right, div-mul-le_self, lt-div-mul-add}
 use Rattle.std.proofs.Math.Bool.{and-false}
 use Rattle.std.proofs.lemmas.Bool.Decides.{nat_tests}
 use Rattle.std.proofs.lemmas.List.Elements.{All-cons, All-nil}
@@ -8,7 +8,6 @@ use Rattle.dp_count.specs.DrawLists.{IsDrawList}
 use Rattle.dp_count.specs.Ratios.{KeepsRatio}
 use Rattle.dp_count.proofs.Counting.{count-interval, count-never}
 use Rattle.dp_count.proofs.Ratios.{ratio-same, ratio-more}
-use Rattle.dp_num.specs.Limits.{capped}
 use Rattle.dp_domain.specs.declared.domains.Domain.TheVariants as domain
 use Rattle.dp_domain.specs.declared.metrics.Metric.TheVariants as metrics
 use Rattle.dp_domain.specs.declared.values.Value.{Value}
@@ -164,5 +163,5 @@ response_law n p q u low high input ratio positive below lows highs bounded = re
   few_pieces = omega arith;
   whole = λ v draws has f. response-whole n low high v draws has;
   limited = λ d k map_is. capped-le (u * min d 1) k map_is;
-  private = λ d k v w answer map_is has_v has_w near. private-at n p q u low high d k v w answer ratio.1 positive below lows highs (capped-same (u * min d 1) k map_is) has_v has_w near
-  }
+  private = λ d k v w answer map_is has_v has_w near. private-at n p q u low high d k v w answer ratio.1 positive below lows highs (capped-same (u * min d 1) k map_is) has_v has_w near;
+}

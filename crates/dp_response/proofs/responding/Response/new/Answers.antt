@@ -16,5 +16,5 @@ invariant_of-result c =
       high_is = made.2;
       positive = ordered.0;
       below_one = ordered.1;
-      bounded = grind (arith, nat_tests)
-      }
+      bounded = grind (arith, nat_tests);
+    }

@@ -1,4 +1,4 @@
-use Rattle.std.proofs.Common.{refl, sym, ap}
+use Rattle.std.proofs.Common.{refl}
 use Rattle.std.proofs.lemmas.Result.{err_from_is_err_and}
 use Rattle.dp_law.proofs.Taking.{take_draws-turn}
 use Rattle.dp_response.proofs.responding.Response.step.Goals as goal
