@@ -1,12 +1,12 @@
 -- The laws of the distance of two lists in any order, for every type of elements and every test that tells them apart.
-use Rattle.std.proofs.Common.{◌≡◌, ℕ, suc, ◌+◌, ◌-◌, ◌*◌, ◌≤◌, ◌<◌, min, Bool, true, false, cond, List, [], ◌∷◌, ◌++◌, map, length, length-append, Option, Some, None, refl, sym, ◌∙◌, ap, subst, arith}
-use Rattle.std.specs.Prelude.{sum_by, count_by, filter, filter_map, Decides}
+use Rattle.std.proofs.Common.{◌≡◌, suc, ◌+◌, ◌≤◌, min, Bool, true, false, cond, List, [], ◌∷◌, ◌++◌, map, length, length-append, Option, Some, None, refl, sym, ◌∙◌, ap, arith}
+use Rattle.std.specs.Prelude.{sum_by, filter, filter_map, Decides}
 use Rattle.std.specs.List.{cons_option}
 use Rattle.std.specs.List.Sorted.{IsPermutation}
 use Rattle.std.proofs.lemmas.List.Sums.{sum_by-cons, sum_by-append, count_by-le-length}
-use Rattle.std.proofs.lemmas.List.Sorted.{length_permutation, sum_by-IsPermutation, IsPermutation-refl}
-use Rattle.dp_domain.specs.Distance.{occurrences, distinct, apart, diff}
-use Rattle.dp_domain.proofs.Occurrences.{left_over, occurrences-append, occurrences-permutation, occurrences-left_over, occurrences-distinct, sum_by-same, sum_by-add, cover, length-le, length-same, permutation-from}
+use Rattle.std.proofs.lemmas.List.Sorted.{length_permutation, sum_by-IsPermutation}
+use Rattle.dp_domain.specs.Distance.{occurrences, distinct, apart, diff, Split}
+use Rattle.dp_domain.proofs.Occurrences.{left_over, occurrences-append, occurrences-permutation, occurrences-left_over, occurrences-distinct, sum_by-same, sum_by-add, cover, length-le, permutation-from}
 
 occurrences-option : {E : Type 0} (same : E → E → Bool) (xs : List E) (e : E) (o : Option E) → occurrences same (cons_option o xs) e ≡ occurrences same (cons_option o []) e + occurrences same xs e
 occurrences-option same xs e None = omega arith
@@ -63,11 +63,11 @@ module _ {E : Type 0} (same : E → E → Bool) (told : (x y : E) → Decides (s
   left_over-triangle xs ys zs =
       let joined = left_over same xs ys ++ left_over same ys zs in
       let bound = length-le same told (left_over same xs zs) joined (λ e.
-          let a = occurrences-left_over same told xs zs e in
-          let b = occurrences-left_over same told xs ys e in
-          let c = occurrences-left_over same told ys zs e in
-          let d = occurrences-append same (left_over same xs ys) (left_over same ys zs) e in
-          omega arith) in
+      let a = occurrences-left_over same told xs zs e in
+      let b = occurrences-left_over same told xs ys e in
+      let c = occurrences-left_over same told ys zs e in
+      let d = occurrences-append same (left_over same xs ys) (left_over same ys zs) e in
+      omega arith) in
       rw (← length-append (left_over same xs ys) (left_over same ys zs)) bound
 
   pub diff-triangle : (xs ys zs : List E) → diff same xs zs ≤ diff same xs ys + diff same ys zs
@@ -92,11 +92,11 @@ module _ {E : Type 0} (same : E → E → Bool) (told : (x y : E) → Decides (s
   diff-none xs ys h =
       let whole = diff-left_over xs ys in
       permutation-from same told xs ys (λ e.
-          let l = occurrences-left_over same told xs ys e in
-          let r = occurrences-left_over same told ys xs e in
-          let few = count_by-le-length (same e) (left_over same xs ys) in
-          let few_other = count_by-le-length (same e) (left_over same ys xs) in
-          omega arith)
+      let l = occurrences-left_over same told xs ys e in
+      let r = occurrences-left_over same told ys xs e in
+      let few = count_by-le-length (same e) (left_over same xs ys) in
+      let few_other = count_by-le-length (same e) (left_over same ys xs) in
+      omega arith)
 
   -- one such list may stand for the other
   pub diff-reorder : (xs ys zs : List E) → IsPermutation xs ys → diff same xs zs ≡ diff same ys zs
@@ -107,32 +107,27 @@ module _ {E : Type 0} (same : E → E → Bool) (told : (x y : E) → Decides (s
       let back = diff-triangle ys xs zs in
       omega arith
 
-  -- a common part, and what is left of each list: as many as the distance says
-  pub record Split (xs ys : List E) : Type 0 where
-    pub common : List E
-    pub left : List E
-    pub right : List E
-    pub one : IsPermutation xs (common ++ left)
-    pub other : IsPermutation ys (common ++ right)
-    pub distance : length left + length right ≡ diff same xs ys
-
+  -- a split that leaves what is left of each list without the other
   pub split : (xs ys : List E) → Split xs ys
   split xs ys =
       let left = left_over same xs ys in
       let right = left_over same ys xs in
       let common = left_over same xs left in
       let at : (e : E) → occurrences same common e ≡ min (occurrences same xs e) (occurrences same ys e) = λ e.
-          let c = occurrences-left_over same told xs left e in
-          let l = occurrences-left_over same told xs ys e in
-          omega arith in
+      let c = occurrences-left_over same told xs left e in
+      let l = occurrences-left_over same told xs ys e in
+      omega arith in
       record {
         common = common;
         left = left;
         right = right;
         one = permutation-from same told xs (common ++ left) (λ e. let l = occurrences-left_over same told xs ys e in let a = occurrences-append same common left e in omega (arith, at e));
         other = permutation-from same told ys (common ++ right) (λ e. let l = occurrences-left_over same told ys xs e in let a = occurrences-append same common right e in omega (arith, at e));
-        distance = sym (diff-left_over xs ys);
       }
+
+  pub split-distance : (xs ys : List E) → length (split xs ys).left + length (split xs ys).right ≡ diff same xs ys
+  unfolding split
+  split-distance xs ys = sym (diff-left_over xs ys)
 
   -- every split of two lists bounds their distance, here by how often each element stands in the parts
   pub diff-le-parts : (xs ys common left right : List E) → ((e : E) → occurrences same xs e ≡ occurrences same common e + occurrences same left e) →
@@ -143,11 +138,11 @@ module _ {E : Type 0} (same : E → E → Bool) (told : (x y : E) → Decides (s
       let whole = diff-left_over xs ys in
       omega arith
 
-  pub diff-le-split : (xs ys common left right : List E) → IsPermutation xs (common ++ left) → IsPermutation ys (common ++ right) → diff same xs ys ≤ length left + length right
-  diff-le-split xs ys common left right h k =
-      diff-le-parts xs ys common left right
-        (λ e. sym (occurrences-permutation same xs (common ++ left) e h) ∙ occurrences-append same common left e)
-        (λ e. sym (occurrences-permutation same ys (common ++ right) e k) ∙ occurrences-append same common right e)
+  pub diff-le-split : (xs ys : List E) (s : Split xs ys) → diff same xs ys ≤ length s.left + length s.right
+  diff-le-split xs ys s =
+      diff-le-parts xs ys s.common s.left s.right
+      (λ e. sym (occurrences-permutation same xs (s.common ++ s.left) e s.one) ∙ occurrences-append same s.common s.left e)
+      (λ e. sym (occurrences-permutation same ys (s.common ++ s.right) e s.other) ∙ occurrences-append same s.common s.right e)
 
   -- the lengths of two lists are no further apart than the lists
   pub diff-lengths : (xs ys : List E) → apart (length xs) (length ys) ≤ diff same xs ys
@@ -157,7 +152,7 @@ module _ {E : Type 0} (same : E → E → Bool) (told : (x y : E) → Decides (s
       let b = length_permutation _ _ s.other in
       let c = length-append s.common s.left in
       let d = length-append s.common s.right in
-      let e = s.distance in
+      let e = split-distance xs ys in
       omega arith
 
 -- a map of each element to at most one element does not raise the distance
@@ -166,10 +161,10 @@ pub diff-filter_map : {E F : Type 0} (same : E → E → Bool) (told : (x y : E)
 diff-filter_map same told same2 told2 f xs ys =
     let s = split same told xs ys in
     let bound = diff-le-parts same2 told2 (filter_map f xs) (filter_map f ys) (filter_map f s.common) (filter_map f s.left) (filter_map f s.right)
-          (λ e. filter_map-parts same2 f xs s.common s.left e s.one) (λ e. filter_map-parts same2 f ys s.common s.right e s.other) in
+    (λ e. filter_map-parts same2 f xs s.common s.left e s.one) (λ e. filter_map-parts same2 f ys s.common s.right e s.other) in
     let l = length-filter_map f s.left in
     let r = length-filter_map f s.right in
-    let d = s.distance in
+    let d = split-distance same told xs ys in
     omega arith
 
 filter_map-map : {E F : Type 0} (f : E → F) (xs : List E) → filter_map (λ x. Some (f x)) xs ≡ map f xs

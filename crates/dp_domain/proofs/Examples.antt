@@ -1,5 +1,5 @@
 -- The distances of small lists, computed.
-use Rattle.std.proofs.Common.{◌≡◌, ℕ, ℤ, pos, negsuc, List, [], ◌∷◌, Option, Some, None, refl}
+use Rattle.std.proofs.Common.{◌≡◌, pos, negsuc, [], ◌∷◌, Some, None, refl}
 use Rattle.std.specs.Prelude.{codes, nat_eq}
 use Rattle.std.specs.Ordering.{int_eq}
 use Rattle.dp_domain.specs.Distance.{distinct, diff, l1, text_eq, record_eq, opt_int_eq}

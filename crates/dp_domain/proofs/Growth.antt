@@ -1,5 +1,5 @@
 -- Values within a distance are within every greater one.
-use Rattle.std.proofs.Common.{◌≡◌, ℕ, ◌*◌, ◌≤◌, ◌⊎◌, inl, inr, arith}
+use Rattle.std.proofs.Common.{ℕ, ◌≤◌, inl, inr, arith}
 use Rattle.dp_domain.specs.Metrics.{Within}
 use Rattle.dp_domain.specs.declared.metrics.Metric.{Metric}
 use Rattle.dp_domain.specs.declared.metrics.Metric.TheVariants as metrics

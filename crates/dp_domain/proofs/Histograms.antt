@@ -1,5 +1,5 @@
 -- How far apart two vectors of numbers of occurrences are.
-use Rattle.std.proofs.Common.{◌≡◌, ℕ, zero, suc, ◌+◌, ◌-◌, ◌≤◌, ◌<◌, Bool, true, false, ℤ, pos, ◌-ℤ◌, List, [], ◌∷◌, ◌++◌, map, length, refl, sym, ◌∙◌, ap, ◌⊎◌, inl, inr, arith, eqb}
+use Rattle.std.proofs.Common.{◌≡◌, ℕ, zero, suc, ◌+◌, ◌≤◌, ◌<◌, Bool, ℤ, pos, ◌-ℤ◌, List, [], ◌∷◌, map, refl, sym, ◌∙◌, ap, inl, inr, arith}
 use Rattle.std.specs.Prelude.{sum_by, Decides, nat_abs, nat_eq, zip}
 use Rattle.std.specs.List.{range_with_len}
 use Rattle.std.proofs.lemmas.Bool.{cases_Bool}
@@ -19,7 +19,8 @@ l1-map f g (e ∷ keys) =
     ∙ ap (λ n. nat_abs (f e -ℤ g e) + n) (l1-map f g keys)
     ∙ sym (sum_by-cons (λ y. nat_abs (f y -ℤ g y)) e keys)
 
-apart-pos : (a b : ℕ) → nat_abs (pos a -ℤ pos b) ≡ apart a b
+-- the absolute difference of two natural numbers
+pub apart-pos : (a b : ℕ) → nat_abs (pos a -ℤ pos b) ≡ apart a b
 apart-pos a b = omega (arith, ints)
 
 -- numbers of occurrences at keys without repeats are apart by at most the distance of the lists
@@ -53,8 +54,9 @@ range-once a zero e = omega arith
 range-once a (suc n) e =
     let whole = occurrences-cons nat_eq a (range_with_len (a + 1) n) e in
     elim (cases_Bool (nat_eq e a)) [
-        inl k ↦ let same = (Decides-eqb e a).0 k in let none = absent (a + 1) n e (omega arith) in let here : one (nat_eq e a) ≡ 1 = ap one k in omega arith
-      | inr k ↦ let ih = range-once (a + 1) n e in let here : one (nat_eq e a) ≡ 0 = ap one k in omega arith ]
+      | inl k ↦ let same = (Decides-eqb e a).0 k in let none = absent (a + 1) n e (omega arith) in let here : one (nat_eq e a) ≡ 1 = ap one k in omega arith
+      | inr k ↦ let ih = range-once (a + 1) n e in let here : one (nat_eq e a) ≡ 0 = ap one k in omega arith
+    ]
 
 -- the histogram of the categories below n that a map gives: its cells are apart by at most the distance of the lists
 pub l1-histogram : {E : Type 0} (same : E → E → Bool) (told : (x y : E) → Decides (same x y) (x ≡ y)) (n : ℕ) (f : E → ℕ) (xs ys : List E) →

@@ -1,7 +1,7 @@
 -- How often each element stands in a list, and what is left of a list after the elements of another are taken out of it.
-use Rattle.std.proofs.Common.{◌≡◌, ℕ, ◌+◌, ◌-◌, ◌*◌, ◌≤◌, ◌<◌, min, Bool, true, false, cond, ◌||◌, List, [], ◌∷◌, ◌++◌, length, refl, sym, ◌∙◌, ap, subst, ◌⊎◌, inl, inr, ◌≢◌, arith}
-use Rattle.std.specs.Prelude.{sum_by, count_by, Decides}
-use Rattle.std.specs.List.{list_any, All}
+use Rattle.std.proofs.Common.{◌≡◌, ℕ, ◌+◌, ◌-◌, ◌≤◌, min, Bool, true, false, cond, ◌||◌, List, [], ◌∷◌, ◌++◌, length, refl, sym, ◌∙◌, ap, subst, inl, inr, arith}
+use Rattle.std.specs.Prelude.{sum_by, Decides}
+use Rattle.std.specs.List.{list_any}
 use Rattle.std.specs.List.Sorted.{IsPermutation}
 use Rattle.std.proofs.lemmas.Bool.{cases_Bool}
 use Rattle.std.proofs.lemmas.List.Sums.{sum_by-cons, sum_by-append, sum_by-le, sum_by-le-sum_by}
@@ -57,10 +57,12 @@ one-or false b n h = omega arith
 module _ {E : Type 0} (same : E → E → Bool) (told : (x y : E) → Decides (same x y) (x ≡ y)) where
   pub same-symmetric : (x y : E) → same x y ≡ same y x
   same-symmetric x y = elim (cases_Bool (same x y)) [
-      inl h ↦ h ∙ sym ((told y x).1 (sym ((told x y).0 h)))
+    | inl h ↦ h ∙ sym ((told y x).1 (sym ((told x y).0 h)))
     | inr h ↦ elim (cases_Bool (same y x)) [
-        inl k ↦ (told x y).1 (sym ((told y x).0 k)) ∙ sym k
-      | inr k ↦ h ∙ sym k ] ]
+      | inl k ↦ (told x y).1 (sym ((told y x).0 k)) ∙ sym k
+      | inr k ↦ h ∙ sym k
+    ]
+  ]
 
   occurrences-itself : (x : E) (xs : List E) → occurrences same (x ∷ xs) x ≡ 1 + occurrences same xs x
   occurrences-itself x xs = occurrences-cons same x xs x ∙ ap (λ b. one b + occurrences same xs x) ((told x x).1 refl)
@@ -70,10 +72,12 @@ module _ {E : Type 0} (same : E → E → Bool) (told : (x y : E) → Decides (s
 
   same-apart : (e y x : E) → same y x ≡ false → one (same e x) + one (same e y) ≤ 1
   same-apart e y x h = elim (cases_Bool (same e x)) [
-      inr k ↦ rw k (omega (arith, one-le (same e y)))
+    | inr k ↦ rw k (omega (arith, one-le (same e y)))
     | inl k ↦ elim (cases_Bool (same e y)) [
-        inr l ↦ rw (k, l) (omega arith)
-      | inl l ↦ let m = (told y x).1 (sym ((told e y).0 l) ∙ (told e x).0 k) in absurd cc ] ]
+      | inr l ↦ rw (k, l) (omega arith)
+      | inl l ↦ let m = (told y x).1 (sym ((told e y).0 l) ∙ (told e x).0 k) in absurd cc
+    ]
+  ]
 
   take_out-step : (e y x : E) (xs : List E) (found : Bool) → same y x ≡ found →
       occurrences same (take_out same y xs) e ≡ occurrences same xs e - one (same e y) →
@@ -133,11 +137,13 @@ module _ {E : Type 0} (same : E → E → Bool) (told : (x y : E) → Decides (s
       occurrences same (distinct same xs) e ≡ min 1 (occurrences same xs e) →
       occurrences same (cond found (distinct same xs) (x ∷ distinct same xs)) e ≡ min 1 (one (same e x) + occurrences same xs e)
   distinct-step x xs e true h ih = elim (cases_Bool (same e x)) [
-      inl k ↦ let at : occurrences same xs e ≡ occurrences same xs x = ap (occurrences same xs) ((told e x).0 k) in rw (k, ih) (omega arith)
-    | inr k ↦ rw (k, ih) (omega arith) ]
+    | inl k ↦ let at : occurrences same xs e ≡ occurrences same xs x = ap (occurrences same xs) ((told e x).0 k) in rw (k, ih) (omega arith)
+    | inr k ↦ rw (k, ih) (omega arith)
+  ]
   distinct-step x xs e false h ih = let c = occurrences-cons same x (distinct same xs) e in elim (cases_Bool (same e x)) [
-      inl k ↦ let at : occurrences same xs e ≡ occurrences same xs x = ap (occurrences same xs) ((told e x).0 k) in rw (c, k, ih) (omega arith)
-    | inr k ↦ rw (c, k, ih) (omega arith) ]
+    | inl k ↦ let at : occurrences same xs e ≡ occurrences same xs x = ap (occurrences same xs) ((told e x).0 k) in rw (c, k, ih) (omega arith)
+    | inr k ↦ rw (c, k, ih) (omega arith)
+  ]
 
   -- each member once
   pub occurrences-distinct : (xs : List E) (e : E) → occurrences same (distinct same xs) e ≡ min 1 (occurrences same xs e)

@@ -1,5 +1,5 @@
 -- How far apart the sums of weights over two lists are.
-use Rattle.std.proofs.Common.{◌≡◌, ℕ, ◌+◌, ◌-◌, ◌*◌, ◌≤◌, max, Bool, ℤ, pos, negsuc, ◌+ℤ◌, ◌-ℤ◌, ◌≤ℤ◌, List, [], ◌∷◌, ◌++◌, length, length-append, refl, sym, ◌∙◌, ap, fold, arith}
+use Rattle.std.proofs.Common.{◌≡◌, ℕ, ◌+◌, ◌*◌, ◌≤◌, max, Bool, ℤ, pos, negsuc, ◌+ℤ◌, ◌-ℤ◌, List, [], ◌∷◌, ◌++◌, length, length-append, sym, ◌∙◌, ap, fold, arith}
 use Rattle.std.specs.Prelude.{sum_by, All, Decides, nat_abs}
 use Rattle.std.specs.List.Sorted.{IsPermutation}
 use Rattle.std.proofs.Math.Nat.{mul-le-mul_right, add-mul, suc-mul, add_comm}
@@ -8,10 +8,10 @@ use Rattle.std.proofs.lemmas.List.Sums.{sum_by-cons, sum_by-append, sum_by-le}
 use Rattle.std.proofs.lemmas.List.Sorted.{length_permutation, sum_by-IsPermutation, All-permutation}
 use Rattle.std.proofs.lemmas.List.Elements.{All-head, All-tail}
 use borrow.Author.Differences.{up, down}
-use Rattle.dp_domain.specs.Distance.{diff, apart}
+use Rattle.dp_domain.specs.Distance.{diff}
 use Rattle.dp_domain.specs.Domains.{IsBetween}
 use Rattle.dp_domain.specs.Sums.{int_sum_by}
-use Rattle.dp_domain.proofs.Distance.{split}
+use Rattle.dp_domain.proofs.Distance.{split, split-distance}
 
 -- a sum by the sums of its positive and of its negative parts
 fold-parts : {E : Type 0} (weight : E → ℤ) (start : ℤ) (xs : List E) → let total = fold (λ sum x. sum +ℤ weight x) start xs in
@@ -106,12 +106,12 @@ module _ {E : Type 0} (same : E → E → Bool) (told : (x y : E) → Decides (s
       let dl = downs-le weight lo hi s.left l in
       let ur = ups-le weight lo hi s.right r in
       let dr = downs-le weight lo hi s.right r in
-      let e : diff same xs ys * m ≡ length s.left * m + length s.right * m = sym (ap (λ n. n * m) s.distance) ∙ add-mul (length s.left) (length s.right) m in
+      let e : diff same xs ys * m ≡ length s.left * m + length s.right * m = sym (ap (λ n. n * m) (split-distance same told xs ys)) ∙ add-mul (length s.left) (length s.right) m in
       gap-le (int_sum_by weight xs) (int_sum_by weight ys) (diff same xs ys * m)
-        (sum_by U xs) (sum_by D xs) (sum_by U ys) (sum_by D ys) (sum_by U s.common) (sum_by D s.common) (sum_by U s.left) (sum_by D s.left) (sum_by U s.right) (sum_by D s.right)
-        (sum-parts weight xs) (sum-parts weight ys)
-        (total-split U xs s.common s.left s.one) (total-split D xs s.common s.left s.one) (total-split U ys s.common s.right s.other) (total-split D ys s.common s.right s.other)
-        (rw e (omega arith)) (rw e (omega arith))
+      (sum_by U xs) (sum_by D xs) (sum_by U ys) (sum_by D ys) (sum_by U s.common) (sum_by D s.common) (sum_by U s.left) (sum_by D s.left) (sum_by U s.right) (sum_by D s.right)
+      (sum-parts weight xs) (sum-parts weight ys)
+      (total-split U xs s.common s.left s.one) (total-split D xs s.common s.left s.one) (total-split U ys s.common s.right s.other) (total-split D ys s.common s.right s.other)
+      (rw e (omega arith)) (rw e (omega arith))
 
   -- weights from lo to hi over lists of one length that differ at d places: the sums are apart by at most d times hi - lo
   pub even-sums-apart : (weight : E → ℤ) (lo hi : ℤ) (d : ℕ) (xs ys : List E) → All (λ x. IsBetween lo hi (weight x)) xs → All (λ x. IsBetween lo hi (weight x)) ys →
@@ -127,7 +127,7 @@ module _ {E : Type 0} (same : E → E → Bool) (told : (x y : E) → Decides (s
       let ly = length_permutation _ _ s.other in
       let cl = length-append s.common s.left in
       let cr = length-append s.common s.right in
-      let total = s.distance in
+      let total = split-distance same told xs ys in
       let few_left : length s.left ≤ d = omega arith in
       let few_right : length s.right ≤ d = omega arith in
       let vl = aboves-le weight lo hi s.left (All-left P xs s.common s.left s.one h) in
@@ -136,6 +136,6 @@ module _ {E : Type 0} (same : E → E → Bool) (told : (x y : E) → Decides (s
       let mr = mul-le-mul_right w few_right in
       let by_ys = aboves weight lo hi ys k in
       even-gap-le (int_sum_by weight xs) (int_sum_by weight ys) (d * w)
-        (sum_by U xs) (sum_by D xs) (sum_by U ys) (sum_by D ys) (length xs * down lo) (length xs * up lo) (sum_by V xs) (sum_by V ys) (sum_by V s.common) (sum_by V s.left) (sum_by V s.right)
-        (sum-parts weight xs) (sum-parts weight ys) (aboves weight lo hi xs h) (rw even by_ys)
-        (total-split V xs s.common s.left s.one) (total-split V ys s.common s.right s.other) (omega arith) (omega arith)
+      (sum_by U xs) (sum_by D xs) (sum_by U ys) (sum_by D ys) (length xs * down lo) (length xs * up lo) (sum_by V xs) (sum_by V ys) (sum_by V s.common) (sum_by V s.left) (sum_by V s.right)
+      (sum-parts weight xs) (sum-parts weight ys) (aboves weight lo hi xs h) (rw even by_ys)
+      (total-split V xs s.common s.left s.one) (total-split V ys s.common s.right s.other) (omega arith) (omega arith)

@@ -1,5 +1,5 @@
 -- How far two lists are from each other in any order, and how far two vectors are.
-use Rattle.std.specs.Prelude.{ℕ, ◌+◌, ◌-◌, ℤ, ◌-ℤ◌, nat_abs, Bool, List, [], ◌∷◌, ◌++◌, Option, cond, sum_by, count_by, zip, nat_eq}
+use Rattle.std.specs.Prelude.{ℕ, ◌+◌, ◌-◌, ℤ, ◌-ℤ◌, nat_abs, Bool, List, [], ◌∷◌, ◌++◌, Option, cond, sum_by, count_by, zip, nat_eq, IsPermutation}
 use Rattle.std.specs.List.{list_any}
 use Rattle.std.specs.Option.{option_eq}
 use Rattle.std.specs.Ordering.{int_eq}
@@ -21,6 +21,14 @@ distinct same (x ∷ xs) = cond (list_any (same x) xs) (distinct same xs) (x ∷
 -- the sum, over all elements, of the difference of their numbers of occurrences: order plays no part
 unfoldable pub diff : {E : Type 0} → (E → E → Bool) → List E → List E → ℕ
 diff same xs ys = sum_by (λ e. apart (occurrences same xs e) (occurrences same ys e)) (distinct same (xs ++ ys))
+
+-- a common part of two lists and what is left of each, in any order
+pub record Split {E : Type 0} (xs ys : List E) : Type 0 where
+  pub common : List E
+  pub left : List E
+  pub right : List E
+  pub one : IsPermutation xs (common ++ left)
+  pub other : IsPermutation ys (common ++ right)
 
 -- the same bytes
 abbrev pub text_eq : List ℕ → List ℕ → Bool

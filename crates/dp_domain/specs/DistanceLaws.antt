@@ -1,7 +1,7 @@
 -- The laws of the distance of two lists in any order. `same` is a test that tells elements apart.
-use Rattle.std.specs.Prelude.{◌≡◌, ℕ, ◌+◌, ◌*◌, ◌≤◌, max, Bool, ℤ, pos, ◌-ℤ◌, nat_abs, nat_eq, List, ◌++◌, map, length, Option, filter, filter_map, Decides, IsPermutation, All}
+use Rattle.std.specs.Prelude.{◌≡◌, ℕ, ◌+◌, ◌*◌, ◌≤◌, max, Bool, ℤ, pos, ◌-ℤ◌, nat_abs, nat_eq, List, map, length, Option, filter, filter_map, Decides, IsPermutation, All}
 use Rattle.std.specs.List.{range_with_len}
-use Rattle.dp_domain.specs.Distance.{occurrences, apart, diff, l1}
+use Rattle.dp_domain.specs.Distance.{occurrences, Split, apart, diff, l1}
 use Rattle.dp_domain.specs.Domains.{IsBetween}
 use Rattle.dp_domain.specs.Metrics.{Within}
 use Rattle.dp_domain.specs.Sums.{int_sum_by}
@@ -20,23 +20,21 @@ SymmetricLaw E = (same : E → E → Bool) → TellsApart same → (xs ys : List
 abbrev pub TriangleLaw : Type 0 → Type 0
 TriangleLaw E = (same : E → E → Bool) → TellsApart same → (xs ys zs : List E) → diff same xs zs ≤ diff same xs ys + diff same ys zs
 
--- order plays no part: lists have distance 0 where they are the same in another order, and nowhere else
+-- order plays no part: a list may be put in another order
+abbrev pub ReorderLaw : Type 0 → Type 0
+ReorderLaw E = (same : E → E → Bool) → TellsApart same → (xs ys zs : List E) → IsPermutation xs ys → diff same xs zs ≡ diff same ys zs
+
+-- lists have distance 0 where they are the same in another order, and nowhere else
 abbrev pub OrderLaw : Type 0 → Type 0
 OrderLaw E = (same : E → E → Bool) → TellsApart same → (xs ys : List E) → (IsPermutation xs ys → diff same xs ys ≡ 0) × (diff same xs ys ≡ 0 → IsPermutation xs ys)
 
--- in some order each list is the common part and what is left of it
-pub record IsSplit {E : Type 0} (xs ys common left right : List E) : Type 0 where
-  pub one : IsPermutation xs (common ++ left)
-  pub other : IsPermutation ys (common ++ right)
-
--- a split leaves as many elements as the distance
+-- some split leaves as many elements as the distance
 abbrev pub SplitLaw : Type 0 → Type 0
-SplitLaw E = (same : E → E → Bool) → TellsApart same → (xs ys : List E)
-    → (common : List E) × (left : List E) × (right : List E) × IsSplit xs ys common left right × (length left + length right ≡ diff same xs ys)
+SplitLaw E = (same : E → E → Bool) → TellsApart same → (xs ys : List E) → (s : Split xs ys) × (length s.left + length s.right ≡ diff same xs ys)
 
--- no split leaves fewer elements than the distance
+-- and no split leaves fewer
 abbrev pub LeastSplitLaw : Type 0 → Type 0
-LeastSplitLaw E = (same : E → E → Bool) → TellsApart same → (xs ys common left right : List E) → IsSplit xs ys common left right → diff same xs ys ≤ length left + length right
+LeastSplitLaw E = (same : E → E → Bool) → TellsApart same → (xs ys : List E) (s : Split xs ys) → diff same xs ys ≤ length s.left + length s.right
 
 -- a map of each element to at most one element does not raise the distance
 abbrev pub FilterMapLaw : Type 0 → Type 0 → Type 0

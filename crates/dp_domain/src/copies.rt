@@ -3,7 +3,7 @@ ghost use Rattle.std.specs.Prelude.{◌≡◌, IfOk, take};
 use dp_count::{Items, NoMemory};
 use std::alloc::Global;
 
-/// A copy that takes memory of its own.
+/// Types whose values can be copied into memory of their own.
 pub trait Duplicate: Drop {
     /// An equal value in memory of its own.
     fn duplicate(&self, alloc: Global) -> Result<Self, NoMemory>

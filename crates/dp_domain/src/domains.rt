@@ -26,10 +26,15 @@ pub enum Domain {
 }
 
 const MOST_ITEMS: u64 = 1 << 30;
+
 const MOST_SIZE: u32 = 1 << 20;
+
 const MOST_COLUMNS: u32 = 64;
+
 const MOST_CATEGORIES: u32 = 1024;
+
 const ITEM_LIMIT: i64 = 1 << 31;
+
 const NUMBER_LIMIT: i64 = 1 << 61;
 
 impl Domain {
@@ -79,20 +84,26 @@ impl Domain {
         requires other { Fits other.now }
         ensures { IsTrue result ↔ (self.now ≡ other.now) }
     {
-        match (self, other) {
-            (Domain::Rows { columns: c }, Domain::Rows { columns: d }) => *c == *d,
-            (Domain::Texts, Domain::Texts) => true,
-            (Domain::OptInts { lo: l, hi: h }, Domain::OptInts { lo: m, hi: i }) => same_range(l, h, m, i),
-            (Domain::Ints { lo: l, hi: h, size: s }, Domain::Ints { lo: m, hi: i, size: t }) => {
-                same_range(l, h, m, i) && *s == *t
+        match self {
+            Domain::Rows { columns } =>
+                matches!(other, Domain::Rows { columns: c } if *columns == *c),
+            Domain::Texts => matches!(other, Domain::Texts),
+            Domain::OptInts { lo, hi } => {
+                matches!(other, Domain::OptInts { lo: l, hi: h } if same_range(lo, hi, l, h))
             }
-            (Domain::Cats { n: c, size: s }, Domain::Cats { n: d, size: t }) => *c == *d && *s == *t,
-            (Domain::Int { lo: l, hi: h }, Domain::Int { lo: m, hi: i }) => same_range(l, h, m, i),
-            (Domain::Cat { n: c }, Domain::Cat { n: d }) => *c == *d,
-            (Domain::IntVec { len: c, lo: l, hi: h }, Domain::IntVec { len: d, lo: m, hi: i }) => {
-                *c == *d && same_range(l, h, m, i)
+            Domain::Ints { lo, hi, size } => {
+                matches!(other, Domain::Ints { lo: l, hi: h, size: s } if same_range(lo, hi, l, h) && *size == *s)
             }
-            _ => false,
+            Domain::Cats { n, size } => {
+                matches!(other, Domain::Cats { n: m, size: s } if *n == *m && *size == *s)
+            }
+            Domain::Int { lo, hi } => {
+                matches!(other, Domain::Int { lo: l, hi: h } if same_range(lo, hi, l, h))
+            }
+            Domain::Cat { n } => matches!(other, Domain::Cat { n: m } if *n == *m),
+            Domain::IntVec { len, lo, hi } => {
+                matches!(other, Domain::IntVec { len: m, lo: l, hi: h } if *len == *m && same_range(lo, hi, l, h))
+            }
         }
     }
 }
@@ -157,7 +168,11 @@ fn is_opt_between(lo: &i64, hi: &i64, x: &Option<i64>) -> bool
 fn has_rows(columns: u32, rows: &Rows) -> bool
     ensures { IsTrue result ↔ ((length rows.now ≤ 2 ^ 30) × All (λ cells. length cells ≡ columns) rows.now) }
 {
-    rows.len() <= MOST_ITEMS && rows.as_slice().iter().all(|cells| cells.len() == u64::from(columns))
+    rows.len() <= MOST_ITEMS
+        && rows
+            .as_slice()
+            .iter()
+            .all(|cells| cells.len() == u64::from(columns))
 }
 
 fn has_texts(texts: &Texts) -> bool
@@ -182,4 +197,320 @@ fn all_below(n: u32, cats: &Cats) -> bool
     ensures { IsTrue result ↔ All (λ x. x < n) cats.now }
 {
     cats.as_slice().iter().all(|x| *x < n)
+}
+
+#[cfg(test)]
+mod tests {
+    use super::*;
+    use crate::lists::{Items, Record, Text};
+    use dp_count::NoMemory;
+    use std::alloc::Global;
+    use std::test::Fail;
+
+    fn text(alloc: Global, text: &str) -> Result<Text, NoMemory> {
+        Ok(Items::from_vec(Vec::from_slice(alloc, text.as_bytes())?))
+    }
+
+    fn one_row(alloc: Global, cells: &[&str]) -> Result<Value, NoMemory> {
+        let mut row = Vec::new(alloc);
+        for cell in cells {
+            row.push(text(alloc, cell)?)?;
+        }
+        let mut rows = Vec::new(alloc);
+        rows.push(Items::from_vec(row))?;
+        Ok(Value::Rows(Items::from_vec(rows)))
+    }
+
+    fn ints(alloc: Global, ints: &[i64]) -> Result<Value, NoMemory> {
+        Ok(Value::Ints(Items::from_vec(Vec::from_slice(alloc, ints)?)))
+    }
+
+    fn cats(alloc: Global, cats: &[u32]) -> Result<Value, NoMemory> {
+        Ok(Value::Cats(Items::from_vec(Vec::from_slice(alloc, cats)?)))
+    }
+
+    fn cells(alloc: Global, cells: &[i64]) -> Result<Value, NoMemory> {
+        Ok(Value::IntVec(Items::from_vec(Vec::from_slice(alloc, cells)?)))
+    }
+
+    fn opt_ints(alloc: Global, ints: &[Option<i64>]) -> Result<Value, NoMemory> {
+        Ok(Value::OptInts(Items::from_vec(Vec::from_slice(alloc, ints)?)))
+    }
+
+    fn has(domain: Domain, value: &Value) -> bool {
+        domain.fits() && domain.has(value)
+    }
+
+    #[test]
+    fn both_ends_of_every_limit_fit(rt: HostRuntime) {
+        for (domain, fits) in [
+            (Domain::Rows { columns: 0 }, false),
+            (Domain::Rows { columns: 1 }, true),
+            (Domain::Rows { columns: 64 }, true),
+            (Domain::Rows { columns: 65 }, false),
+            (Domain::Texts, true),
+            (
+                Domain::OptInts {
+                    lo: -2147483648,
+                    hi: 2147483648,
+                },
+                true,
+            ),
+            (
+                Domain::OptInts {
+                    lo: -2147483649,
+                    hi: 0,
+                },
+                false,
+            ),
+            (
+                Domain::OptInts {
+                    lo: 0,
+                    hi: 2147483649,
+                },
+                false,
+            ),
+            (
+                Domain::Ints {
+                    lo: -2147483648,
+                    hi: 2147483648,
+                    size: None,
+                },
+                true,
+            ),
+            (
+                Domain::Ints {
+                    lo: 0,
+                    hi: 2147483649,
+                    size: None,
+                },
+                false,
+            ),
+            (
+                Domain::Ints {
+                    lo: 1,
+                    hi: 0,
+                    size: None,
+                },
+                false,
+            ),
+            (
+                Domain::Ints {
+                    lo: 0,
+                    hi: 0,
+                    size: Some(0),
+                },
+                false,
+            ),
+            (
+                Domain::Ints {
+                    lo: 0,
+                    hi: 0,
+                    size: Some(1),
+                },
+                true,
+            ),
+            (
+                Domain::Ints {
+                    lo: 0,
+                    hi: 0,
+                    size: Some(1048576),
+                },
+                true,
+            ),
+            (
+                Domain::Ints {
+                    lo: 0,
+                    hi: 0,
+                    size: Some(1048577),
+                },
+                false,
+            ),
+            (Domain::Cats { n: 1, size: None }, false),
+            (
+                Domain::Cats {
+                    n: 2,
+                    size: Some(1048576),
+                },
+                true,
+            ),
+            (
+                Domain::Cats {
+                    n: 1024,
+                    size: None,
+                },
+                true,
+            ),
+            (
+                Domain::Cats {
+                    n: 1025,
+                    size: None,
+                },
+                false,
+            ),
+            (
+                Domain::Int {
+                    lo: -2305843009213693952,
+                    hi: 2305843009213693952,
+                },
+                true,
+            ),
+            (
+                Domain::Int {
+                    lo: -2305843009213693953,
+                    hi: 0,
+                },
+                false,
+            ),
+            (
+                Domain::Int {
+                    lo: 0,
+                    hi: 2305843009213693953,
+                },
+                false,
+            ),
+            (Domain::Cat { n: 1 }, false),
+            (Domain::Cat { n: 1024 }, true),
+            (
+                Domain::IntVec {
+                    len: 1,
+                    lo: 0,
+                    hi: 0,
+                },
+                false,
+            ),
+            (
+                Domain::IntVec {
+                    len: 2,
+                    lo: 0,
+                    hi: 2305843009213693952,
+                },
+                true,
+            ),
+            (
+                Domain::IntVec {
+                    len: 1025,
+                    lo: 0,
+                    hi: 0,
+                },
+                false,
+            ),
+        ] {
+            assert_eq!(rt; domain.fits(), fits, "{domain:?}");
+        }
+    }
+
+    #[test]
+    fn records_have_as_many_cells_as_columns(rt: HostRuntime) -> Result<(), Fail> {
+        let alloc = rt.alloc();
+        let rows = Domain::Rows { columns: 2 };
+        assert!(rt; !has(rows, &one_row(alloc, &["a"])?));
+        assert!(rt; has(rows, &one_row(alloc, &["a", "b"])?));
+        assert!(rt; has(rows, &Value::Rows(Items::new(alloc))));
+        assert!(rt; has(Domain::Texts, &Value::Texts(Items::new(alloc))));
+        assert!(rt; !has(Domain::Texts, &Value::Rows(Items::new(alloc))));
+        Ok(())
+    }
+
+    #[test]
+    fn elements_and_sizes_are_as_the_domain_says(rt: HostRuntime) -> Result<(), Fail> {
+        let alloc = rt.alloc();
+        let unsized_ints = Domain::Ints {
+            lo: 0,
+            hi: 9,
+            size: None,
+        };
+        let two_ints = Domain::Ints {
+            lo: 0,
+            hi: 9,
+            size: Some(2),
+        };
+        for (numbers, any_size, of_two) in [
+            ([].as_slice(), true, false),
+            ([0, 9].as_slice(), true, true),
+            ([0, 9, 4].as_slice(), true, false),
+            ([-1, 9].as_slice(), false, false),
+            ([0, 10].as_slice(), false, false),
+        ] {
+            let value = ints(alloc, numbers)?;
+            assert_eq!(rt; has(unsized_ints, &value), any_size, "{numbers:?}");
+            assert_eq!(rt; has(two_ints, &value), of_two, "{numbers:?}");
+        }
+        let some = Domain::OptInts { lo: 0, hi: 9 };
+        assert!(rt; has(some, &opt_ints(alloc, &[None, Some(9)])?));
+        assert!(rt; !has(some, &opt_ints(alloc, &[Some(10)])?));
+        let categories = Domain::Cats {
+            n: 3,
+            size: Some(1),
+        };
+        assert!(rt; has(categories, &cats(alloc, &[2])?));
+        assert!(rt; !has(categories, &cats(alloc, &[3])?));
+        assert!(rt; !has(categories, &cats(alloc, &[2, 2])?));
+        let vector = Domain::IntVec {
+            len: 2,
+            lo: 0,
+            hi: 9,
+        };
+        assert!(rt; has(vector, &cells(alloc, &[0, 9])?));
+        assert!(rt; !has(vector, &cells(alloc, &[0])?));
+        assert!(rt; !has(vector, &ints(alloc, &[0, 9])?));
+        assert!(rt; has(Domain::Int { lo: -3, hi: 3 }, &Value::Int(-3)));
+        assert!(rt; !has(Domain::Cat { n: 2 }, &Value::Cat(2)));
+        Ok(())
+    }
+
+    #[test]
+    fn domains_that_differ_in_one_number_do_not_agree(rt: HostRuntime) {
+        let domain = Domain::Ints {
+            lo: 0,
+            hi: 9,
+            size: Some(5),
+        };
+        for (other, agrees) in [
+            (
+                Domain::Ints {
+                    lo: 0,
+                    hi: 9,
+                    size: Some(5),
+                },
+                true,
+            ),
+            (
+                Domain::Ints {
+                    lo: 1,
+                    hi: 9,
+                    size: Some(5),
+                },
+                false,
+            ),
+            (
+                Domain::Ints {
+                    lo: 0,
+                    hi: 8,
+                    size: Some(5),
+                },
+                false,
+            ),
+            (
+                Domain::Ints {
+                    lo: 0,
+                    hi: 9,
+                    size: Some(6),
+                },
+                false,
+            ),
+            (
+                Domain::Ints {
+                    lo: 0,
+                    hi: 9,
+                    size: None,
+                },
+                false,
+            ),
+            (Domain::Int { lo: 0, hi: 9 }, false),
+        ] {
+            assert!(rt; domain.fits() && other.fits());
+            assert_eq!(rt; domain.agrees(&other), agrees, "{other:?}");
+        }
+    }
 }

@@ -1,6 +1,6 @@
 //! The laws of the distance of two lists in any order. Each is the contract of a function that does nothing. `E` and `F`
 //! are types of elements.
-ghost use Rattle.dp_domain.specs.DistanceLaws.{SymmetricLaw, TriangleLaw, OrderLaw, SplitLaw, LeastSplitLaw, FilterMapLaw, MapLaw, FilterLaw, LengthLaw, SumLaw, EvenSumLaw, HistogramLaw, WiderLaw};
+ghost use Rattle.dp_domain.specs.DistanceLaws.{SymmetricLaw, TriangleLaw, ReorderLaw, OrderLaw, SplitLaw, LeastSplitLaw, FilterMapLaw, MapLaw, FilterLaw, LengthLaw, SumLaw, EvenSumLaw, HistogramLaw, WiderLaw};
 
 /// The distance is the same either way round, and a way round is no shorter.
 pub fn distance_law<E>()
@@ -8,9 +8,10 @@ pub fn distance_law<E>()
     ensures triangle { TriangleLaw E }
 {}
 
-/// Order plays no part: the distance is 0 exactly for lists that are the same in another order.
+/// Order plays no part, and the distance is 0 exactly for lists that are the same in another order.
 pub fn order_law<E>()
-    ensures { OrderLaw E }
+    ensures reorder { ReorderLaw E }
+    ensures none { OrderLaw E }
 {}
 
 /// Two lists have a common part, and what is left of them is as many elements as their distance, and never fewer.

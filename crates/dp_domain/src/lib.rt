@@ -10,6 +10,7 @@ mod lists;
 mod metrics;
 mod values;
 
+pub use copies::Duplicate;
 pub use domains::Domain;
 pub use lists::{Cats, Cells, Ints, Items, OptInts, Record, Rows, Text, Texts};
 pub use metrics::Metric;
