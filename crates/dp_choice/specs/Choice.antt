@@ -45,8 +45,8 @@ choice_of n first len least most p q u floor top low high = record {
   shape = n ∷ [];
   function = choose n first low high floor top;
   pieces = 1;
-  privacy_map = choice_loss u
-  }
+  privacy_map = choice_loss u;
+}
 
 abbrev pub choice : ℕ → ℤ → ℤ → ℕ → ℕ → ℕ → ℤ → ℤ → ℕ → ℕ → Mechanism
 choice = choice_of all_draws first_weight

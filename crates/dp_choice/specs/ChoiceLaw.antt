@@ -1,9 +1,8 @@
 -- Weighted choice is private.
-use Rattle.std.proofs.Common.{◌≡◌, ℕ, zero, suc, ◌+◌, ◌-◌, ◌*◌, ◌^◌, ◌≤◌, ◌<◌, ℤ, ◌-ℤ◌, ◌≤ℤ◌, nat_abs, Bool, true, false, cond, ◌&&◌, List, [], ◌∷◌, length, Option, Some, refl, sym, ◌∙◌, ap, subst, arith, add-one, eqb, leb, ltb}
+use Rattle.std.proofs.Common.{◌≡◌, ℕ, suc, ◌+◌, ◌-◌, ◌*◌, ◌^◌, ◌≤◌, ◌<◌, ℤ, ◌-ℤ◌, ◌≤ℤ◌, nat_abs, Bool, true, false, cond, ◌&&◌, List, [], ◌∷◌, length, Some, refl, ◌∙◌, subst, arith, add-one, eqb, ltb}
 use Rattle.std.specs.Prelude.{slice_index}
 use Rattle.std.specs.List.{sum}
 use Rattle.std.proofs.Math.Bool.{and-false, and-true}
-use Rattle.std.proofs.Math.Nat.{mul-le-mul_right}
 use Rattle.std.proofs.lemmas.Bool.Decides.{nat_tests}
 use Rattle.std.proofs.lemmas.List.Elements.{All-cons, All-nil}
 use Rattle.dp_count.specs.DrawLists.{count, IsDrawList}
@@ -70,7 +69,7 @@ choice_ways = record {
   outside = λ n first len lo hi p q u floor top low high cells j h out.
       let same = length-weights first low high floor top cells in
       place_ways-outside n (weights first low high floor top cells) j (omega arith) (omega arith);
-  }
+}
 
 -- one place on vectors that are near
 place-near : (n first len p q u d : ℕ) (floor top : ℤ) (low high : ℕ) (xs ys : List ℤ) (j : ℕ) → 1 ≤ first → p ≤ q → 1 ≤ low → low ≤ high → low ≡ p ^ u → high ≡ q ^ u → floor ≤ℤ top →
@@ -177,5 +176,5 @@ choice_law_of n first len lo hi p q u floor top low high positive few a input ra
   few_pieces = omega arith;
   whole = λ v draws has g. choose-whole n first len lo hi low high floor top v draws has;
   limited = λ d k is. loss-limited (eqb d 0) u d k is;
-  private = λ d k v w answer is has_v has_w near. private-at n first len lo hi p q u floor top low high d k v w answer is a (omega (arith, ratio.1)) b c lows highs f fits (omega (arith, input.0.0)) has_v has_w near
-  }
+  private = λ d k v w answer is has_v has_w near. private-at n first len lo hi p q u floor top low high d k v w answer is a (omega (arith, ratio.1)) b c lows highs f fits (omega (arith, input.0.0)) has_v has_w near;
+}

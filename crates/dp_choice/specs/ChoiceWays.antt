@@ -1,5 +1,5 @@
 -- How many draws choose each cell.
-use Rattle.std.specs.Prelude.{◌≡◌, ℕ, ◌+◌, ◌-◌, ◌*◌, ◌≤◌, ◌<◌, ℤ, ◌≤ℤ◌, List, [], ◌∷◌, length, slice_index}
+use Rattle.std.specs.Prelude.{◌≡◌, ℕ, ◌+◌, ◌-◌, ◌*◌, ◌≤◌, ◌<◌, ℤ, List, [], ◌∷◌, length, slice_index}
 use Rattle.std.specs.List.{sum}
 use Rattle.dp_domain.specs.declared.values.Value.TheVariants as value
 use Rattle.dp_law.specs.declared.pieces.Piece.TheVariants as piece

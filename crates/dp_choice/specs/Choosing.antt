@@ -1,5 +1,5 @@
 -- Weighted choice among the cells of a vector: with each step of a cell's score its weight grows by the ratio high / low.
-use Rattle.std.specs.Prelude.{ℕ, zero, suc, ◌+◌, ◌*◌, ◌/◌, ℤ, ◌-ℤ◌, nat_abs, Bool, List, [], ◌∷◌, length, take, map, if◌then◌else◌, nat_le}
+use Rattle.std.specs.Prelude.{ℕ, zero, suc, ◌*◌, ◌/◌, ℤ, ◌-ℤ◌, nat_abs, Bool, List, [], ◌∷◌, length, take, map, if◌then◌else◌, nat_le}
 use Rattle.std.specs.Int.{int_min, int_max}
 use Rattle.std.specs.List.{sum}
 

@@ -1,5 +1,5 @@
 -- Which draws choose a place: those from the share before the place to the share with it.
-use Rattle.std.proofs.Common.{◌≡◌, ℕ, zero, suc, ◌+◌, ◌-◌, ◌*◌, ◌/◌, ◌≤◌, ◌<◌, Bool, true, false, ◌&&◌, List, [], ◌∷◌, length, take, refl, sym, ◌∙◌, ap, subst, arith, ltb, leb, eqb, add-one}
+use Rattle.std.proofs.Common.{◌≡◌, ℕ, zero, suc, ◌+◌, ◌-◌, ◌*◌, ◌/◌, ◌≤◌, ◌<◌, Bool, true, false, ◌&&◌, List, [], ◌∷◌, length, take, refl, ◌∙◌, ap, arith, ltb, leb, eqb, add-one}
 use Rattle.std.specs.Prelude.{slice_index}
 use Rattle.std.specs.List.{sum}
 use Rattle.std.proofs.lemmas.Bool.Decides.{nat_tests}
@@ -123,7 +123,7 @@ shares-rise n ws h = record {
   start = share-start n ws;
   whole = share-whole n ws h;
   rise = λ a b l. share-rise n ws a b h l;
-  }
+}
 
 -- a draw chooses a place exactly where it lies from the share before the place to the share with it
 pub chosen-interval : (n : ℕ) (ws : List ℕ) (draw j : ℕ) → 1 ≤ sum ws → j < length ws → draw < n → eqb (chosen n ws draw) j ≡ (leb (share n ws j) draw && ltb draw (share n ws (suc j)))

@@ -1,6 +1,6 @@
 -- Weights rise with scores, and by no more than the ratio allows; so do the weights of vectors that are near.
-use Rattle.std.proofs.Common.{◌≡◌, ℕ, zero, suc, ◌+◌, ◌-◌, ◌*◌, ◌/◌, ◌^◌, ◌≤◌, ◌<◌, ℤ, ◌-ℤ◌, ◌≤ℤ◌, nat_abs, List, [], ◌∷◌, length, refl, sym, ◌∙◌, ap, subst, arith}
-use Rattle.std.specs.Prelude.{map, slice_index, zip}
+use Rattle.std.proofs.Common.{◌≡◌, ℕ, zero, suc, ◌+◌, ◌-◌, ◌*◌, ◌^◌, ◌≤◌, ◌<◌, ℤ, ◌-ℤ◌, ◌≤ℤ◌, nat_abs, List, [], ◌∷◌, length, refl, ap, subst, arith}
+use Rattle.std.specs.Prelude.{slice_index, zip}
 use Rattle.std.specs.List.{sum}
 use Rattle.std.proofs.lemmas.Int.{ints, clamps}
 use Rattle.std.proofs.lemmas.List.Sums.{sum_by-cons}
