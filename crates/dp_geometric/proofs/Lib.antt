@@ -1,3 +1,4 @@
 mod LeadingRun
 mod Settling
 mod Stepping
+mod VectorSteps

@@ -1,4 +1,6 @@
 pub mod CellLaw
 pub mod CellPlaces
 pub mod CellProof
+pub mod Geometric
+pub mod GeometricLaw
 pub mod OneCell

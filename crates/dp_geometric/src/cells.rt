@@ -64,7 +64,7 @@ impl Cell {
     }
 
     /// How many run draws one answer takes.
-    fn width(&self) -> u64
+    pub(crate) fn width(&self) -> u64
         ensures value { result ≡ width self.now.lo self.now.hi }
         ensures few { result ≤ 65535 }
     {

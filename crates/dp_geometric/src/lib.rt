@@ -4,8 +4,10 @@
 #![tactic(auto)]
 
 mod cells;
+mod measuring;
 mod runs;
 #[cfg(test)]
 mod small;
 
 pub use cells::Cell;
+pub use measuring::Geometric;

@@ -1,0 +1,5 @@
+use Rattle.dp_choice.specs.ChoiceLaw.{choice_law_of}
+use Rattle.dp_choice.proofs.laws.privacy_law.Goals as goal
+
+pub returns : goal.returns
+returns c = choice_law_of

@@ -1,0 +1,5 @@
+use Rattle.dp_choice.specs.ChoiceLaw.{choice_ways}
+use Rattle.dp_choice.proofs.laws.ways_law.Goals as goal
+
+pub returns : goal.returns
+returns c = choice_ways

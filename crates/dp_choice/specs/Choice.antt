@@ -1,0 +1,77 @@
+-- Weighted choice as a measurement.
+use Rattle.std.specs.Prelude.{ℕ, zero, suc, ◌+◌, ◌-◌, ◌*◌, ◌^◌, ◌==◌, ◌&&◌, ℤ, pos, neg_ℤ, ◌-ℤ◌, nat_abs, int_le, int_lt, nat_le, Bool, List, [], ◌∷◌, ◌++◌, Option, Some, None, Result, Ok, Err, if◌then◌else◌}
+use Rattle.dp_num.specs.Limits.{capped, powers}
+use Rattle.dp_domain.specs.declared.domains.Domain.{Domain}
+use Rattle.dp_domain.specs.declared.domains.Domain.TheVariants as domain
+use Rattle.dp_domain.specs.declared.metrics.Metric.{Metric}
+use Rattle.dp_domain.specs.declared.metrics.Metric.TheVariants as metrics
+use Rattle.dp_domain.specs.declared.values.Value.{Value}
+use Rattle.dp_domain.specs.declared.values.Value.TheVariants as value
+use Rattle.dp_law.specs.declared.pieces.Piece.{Piece}
+use Rattle.dp_law.specs.declared.pieces.Piece.TheVariants as piece
+use Rattle.dp_law.specs.declared.refusals.Refused.{Refused}
+use Rattle.dp_law.specs.declared.refusals.Refused.TheVariants as refused
+use Rattle.dp_law.specs.Mechanism.{Mechanism}
+use Rattle.dp_choice.specs.Choosing.{weight, weights, chosen_by}
+
+-- the weight of the score 0
+abbrev pub first_weight : ℕ
+first_weight = 65536
+
+-- the bound of the draw
+abbrev pub all_draws : ℕ
+all_draws = 2 ^ 62
+
+-- the weights of the scores from 0 to a greatest one
+unfoldable pub weight_table : ℕ → ℕ → ℕ → ℕ → List ℕ
+weight_table first low high zero = first ∷ []
+weight_table first low high (suc s) = weight_table first low high s ++ weight first low high (suc s) ∷ []
+
+-- the category that is chosen on a value
+abbrev pub choose : ℕ → ℕ → ℕ → ℕ → ℤ → ℤ → Value → List ℕ → List Piece
+choose n first low high floor top (value.IntVec cells) draws = piece.Cat (chosen_by n (weights first low high floor top cells) draws) ∷ []
+choose n first low high floor top _ draws = []
+
+-- no loss at the distance 0; else 2 u d, and one unit for the rounding of the shares
+abbrev pub choice_loss : ℕ → ℕ → Option ℕ
+choice_loss u d = if d == 0 then Some 0 else capped (2 * u * d + 1)
+
+-- one draw below n, the chosen category as one piece; low and high are p and q to the power u
+abbrev pub choice_of : ℕ → ℕ → ℕ → ℤ → ℤ → ℕ → ℕ → ℕ → ℤ → ℤ → ℕ → ℕ → Mechanism
+choice_of n first len least most p q u floor top low high = record {
+  input_domain = domain.IntVec len least most;
+  input_metric = metrics.L1;
+  ratio = (p, q);
+  shape = n ∷ [];
+  function = choose n first low high floor top;
+  pieces = 1;
+  privacy_map = choice_loss u;
+}
+
+abbrev pub choice : ℕ → ℤ → ℤ → ℕ → ℕ → ℕ → ℤ → ℤ → ℕ → ℕ → Mechanism
+choice = choice_of all_draws first_weight
+
+-- the range of the scores is not empty, from -2 ^ 61 to 2 ^ 61, and at most 65,535 wide
+abbrev pub is_score_range : ℤ → ℤ → Bool
+is_score_range floor top = int_le (neg_ℤ (pos (2 ^ 61))) floor && int_lt floor top && int_le top (pos (2 ^ 61)) && int_le (top -ℤ floor) (pos 65535)
+
+-- the sum of the weights fits, and each cell's share leaves room for the rounding
+abbrev pub weights_fit : ℕ → ℕ → ℕ → ℕ → Bool
+weights_fit len most p q = nat_le (len * most) all_draws && nat_le (len * most * (q + p)) (all_draws * first_weight * (q - p))
+
+-- the range of the scores and the weight of the greatest score
+unfoldable pub is_choice : ℕ → ℕ → ℕ → ℤ → ℤ → ℕ → ℕ → Bool
+is_choice len p q floor top low high = is_score_range floor top && weights_fit len (weight first_weight low high (nat_abs (top -ℤ floor))) p q
+
+-- the powers are there, the scores are in range, and the weights fit
+abbrev pub choice_with : ℕ → ℤ → ℤ → ℕ → ℕ → ℕ → ℤ → ℤ → Option (ℕ × ℕ) → Result Mechanism Refused
+choice_with len least most p q u floor top None = Err refused.Bound
+choice_with len least most p q u floor top (Some both) = if is_choice len p q floor top both.0 both.1
+    then Ok (choice len least most p q u floor top both.0 both.1)
+    else Err refused.Bound
+
+-- what weighted choice is on a domain and a metric
+abbrev pub choice_from : ℕ → ℕ → ℕ → ℤ → ℤ → Domain → Metric → Result Mechanism Refused
+choice_from p q u floor top (domain.IntVec len least most) metrics.L1 = choice_with len least most p q u floor top (powers p q u)
+choice_from p q u floor top (domain.IntVec len least most) metric = Err refused.Metric
+choice_from p q u floor top _ metric = Err refused.Kind

@@ -1,0 +1,22 @@
+-- How many draws choose each cell.
+use Rattle.std.specs.Prelude.{◌≡◌, ℕ, ◌+◌, ◌-◌, ◌*◌, ◌≤◌, ◌<◌, ℤ, List, [], ◌∷◌, length, slice_index}
+use Rattle.std.specs.List.{sum}
+use Rattle.dp_domain.specs.declared.values.Value.TheVariants as value
+use Rattle.dp_law.specs.declared.pieces.Piece.TheVariants as piece
+use Rattle.dp_law.specs.Mechanism.{ways}
+use Rattle.dp_choice.specs.Choosing.{weights, share}
+use Rattle.dp_choice.specs.Choice.{choice_of}
+
+-- the number of draws of the cell j: what its weight adds to the share, so that it lies by less than 1 from the exact
+-- share of n, said as products with the sum of the weights
+pub record IsShareOf (n : ℕ) (ws : List ℕ) (j ways : ℕ) : Type 0 where
+  pub exact : ways ≡ share n ws (j + 1) - share n ws j
+  pub least : n * slice_index ws j < ways * sum ws + sum ws
+  pub most : ways * sum ws < n * slice_index ws j + sum ws
+
+-- each cell of a vector has the draws of its share, and nothing else has any
+pub record WaysLaw : Type 0 where
+  pub cell : (n first len : ℕ) (lo hi : ℤ) (p q u : ℕ) (floor top : ℤ) (low high : ℕ) (cells : List ℤ) (j : ℕ) → 1 ≤ first → 1 ≤ low → low ≤ high → j < length cells
+      → IsShareOf n (weights first low high floor top cells) j (ways (choice_of n first len lo hi p q u floor top low high) (value.IntVec cells) (piece.Cat j ∷ []))
+  pub outside : (n first len : ℕ) (lo hi : ℤ) (p q u : ℕ) (floor top : ℤ) (low high : ℕ) (cells : List ℤ) (j : ℕ) → 1 ≤ length cells → length cells ≤ j
+      → ways (choice_of n first len lo hi p q u floor top low high) (value.IntVec cells) (piece.Cat j ∷ []) ≡ 0

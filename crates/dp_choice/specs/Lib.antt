@@ -1,0 +1,8 @@
+pub mod Choice
+pub mod ChoiceLaw
+pub mod ChoicePrivacy
+pub mod ChoiceWays
+pub mod Choosing
+pub mod PlaceLaws
+pub mod ShareLaws
+pub mod WeightLaws

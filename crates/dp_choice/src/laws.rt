@@ -1,0 +1,25 @@
+//! The laws of weighted choice. Each is the contract of a function that does nothing.
+ghost use Rattle.dp_choice.specs.ChoiceWays.{WaysLaw};
+ghost use Rattle.dp_choice.specs.ChoicePrivacy.{PrivacyLaw};
+
+/// How many draws choose each cell: what its weight adds to the share of the draws, rounded down.
+pub fn ways_law()
+    ensures { WaysLaw }
+{}
+
+/// The choice is private at 2·u·d + 1 units of loss where the weights leave room for the rounding, and without loss at
+/// the distance 0.
+pub fn privacy_law()
+    ensures { PrivacyLaw }
+{}
+
+#[cfg(test)]
+mod tests {
+    use super::*;
+
+    #[test]
+    fn the_laws_can_be_cited(_rt: HostRuntime) {
+        ways_law();
+        privacy_law();
+    }
+}
