@@ -12,14 +12,3 @@ pub fn ways_law()
 pub fn privacy_law()
     ensures { PrivacyLaw }
 {}
-
-#[cfg(test)]
-mod tests {
-    use super::*;
-
-    #[test]
-    fn the_laws_can_be_cited(_rt: HostRuntime) {
-        ways_law();
-        privacy_law();
-    }
-}

@@ -90,6 +90,20 @@ fn is_pair(v: &Value, one: &[u8], other: &[u8]) -> bool {
     }
 }
 
+fn is_no_rows(v: &Value) -> bool {
+    match v {
+        Value::Rows(found) => found.as_slice().is_empty(),
+        _ => false,
+    }
+}
+
+fn is_no_texts(v: &Value) -> bool {
+    match v {
+        Value::Texts(found) => found.as_slice().is_empty(),
+        _ => false,
+    }
+}
+
 /// What a part gives of a value of its input domain. Its stability map is tried at both ends.
 fn applied<T: Transformation + Drop>(alloc: Global, part: T, v: &Value) -> Result<Value, Fault> {
     if part.map(0) != Ok(0) || part.map(4_294_967_296) != Ok(4_294_967_296) {
@@ -137,6 +151,28 @@ fn copy_bytes(alloc: Global, bytes: &[u8]) -> Result<Vec<u8>, NoMemory> {
 
 fn copy_edges(alloc: Global, edges: &[i64]) -> Result<Vec<i64>, NoMemory> {
     Ok(Vec::from_slice(alloc, edges)?)
+}
+
+/// The edges from 0, as many as asked for.
+fn many_edges(alloc: Global, count: i64) -> Result<Vec<i64>, NoMemory> {
+    let mut edges = Vec::new(alloc);
+    for edge in 0..count {
+        edges.push(edge)?;
+    }
+    Ok(edges)
+}
+
+/// Different texts of two bytes, as many as asked for, at most 1,024.
+fn many_texts(alloc: Global, count: usize) -> Result<Texts, NoMemory> {
+    let mut texts = Vec::new(alloc);
+    for high in 0..4_u8 {
+        for low in 0..=255_u8 {
+            if texts.len() < count {
+                texts.push(Text::from_vec(Vec::from_slice(alloc, &[high, low])?))?;
+            }
+        }
+    }
+    Ok(Texts::from_vec(texts))
 }
 
 fn categories_fault(
@@ -299,6 +335,10 @@ fn edges_are_refused_by_their_row(rt: HostRuntime) -> Result<(), NoMemory> {
         let edges = copy_edges(rt.alloc(), edges)?;
         assert_eq!(rt; Bins::new(domain, metric, edges).err(), wanted);
     }
+    for (count, wanted) in [(1_023, None), (1_024, Some(Refused::Bound))] {
+        let edges = many_edges(rt.alloc(), count)?;
+        assert_eq!(rt; Bins::new(AGES, Metric::ChangeOne, edges).err(), wanted);
+    }
     Ok(())
 }
 
@@ -335,6 +375,11 @@ fn categories_are_refused_by_their_row(rt: HostRuntime) -> Result<(), NoMemory> 
         let texts = texts_of(rt.alloc(), texts)?;
         assert_eq!(rt; categories_fault(rt.alloc(), domain, metric, texts), wanted);
     }
+    for (count, wanted) in [(1_023, None), (1_024, Some(MakeFault::Bound))] {
+        let texts = many_texts(rt.alloc(), count)?;
+        let fault = categories_fault(rt.alloc(), Domain::Texts, Metric::Symmetric, texts);
+        assert_eq!(rt; fault, wanted);
+    }
     Ok(())
 }
 
@@ -362,6 +407,7 @@ fn texts_are_cast_and_numbered(rt: HostRuntime) -> Result<(), Fault> {
             b"+5".as_slice(),
             b"-2147483648".as_slice(),
             b"-".as_slice(),
+            b" 5".as_slice(),
         ],
     )?);
     let numbers = cast_texts(rt.alloc(), &texts)?;
@@ -376,10 +422,11 @@ fn texts_are_cast_and_numbered(rt: HostRuntime) -> Result<(), Fault> {
         None,
         Some(-MOST),
         None,
+        None,
     ];
     assert!(rt; is_optional(&numbers, &wanted));
     let places = numbered(rt.alloc(), &texts)?;
-    assert!(rt; is_cats(&places, &[1, 2, 2, 2, 2, 2, 0, 2, 2, 2]));
+    assert!(rt; is_cats(&places, &[1, 2, 2, 2, 2, 2, 0, 2, 2, 2, 2]));
     Ok(())
 }
 
@@ -427,6 +474,40 @@ fn an_empty_list_stays_empty(rt: HostRuntime) -> Result<(), Fault> {
     )?;
     assert!(rt; is_ints(&left, &[]));
     let places = numbered(rt.alloc(), &none)?;
+    assert!(rt; is_cats(&places, &[]));
+    Ok(())
+}
+
+#[test]
+fn no_records_stay_none(rt: HostRuntime) -> Result<(), Fault> {
+    let kept = filtered(rt.alloc(), &Value::Rows(Rows::new(rt.alloc())))?;
+    assert!(rt; is_no_rows(&kept));
+    let texts = selected(rt.alloc(), &kept)?;
+    assert!(rt; is_no_texts(&texts));
+    Ok(())
+}
+
+#[test]
+fn no_numbers_stay_none(rt: HostRuntime) -> Result<(), Fault> {
+    let numbers = optional_of(rt.alloc(), &[])?;
+    let imputed = applied(
+        rt.alloc(),
+        Impute::new(OPTIONAL, Metric::Symmetric, 4)?,
+        &numbers,
+    )?;
+    assert!(rt; is_ints(&imputed, &[]));
+    let clamped = applied(
+        rt.alloc(),
+        Clamp::new(UNSIZED, Metric::Symmetric, 1, 3)?,
+        &ints_of(rt.alloc(), &[])?,
+    )?;
+    assert!(rt; is_ints(&clamped, &[]));
+    let edges = copy_edges(rt.alloc(), &[2])?;
+    let places = applied(
+        rt.alloc(),
+        Bins::new(UNSIZED, Metric::Symmetric, edges)?,
+        &clamped,
+    )?;
     assert!(rt; is_cats(&places, &[]));
     Ok(())
 }
