@@ -1,5 +1,5 @@
 -- Weighted choice as a measurement.
-use Rattle.std.specs.Prelude.{ℕ, zero, suc, ◌+◌, ◌-◌, ◌*◌, ◌^◌, ◌==◌, ◌&&◌, ℤ, pos, neg_ℤ, ◌-ℤ◌, nat_abs, int_le, int_lt, nat_le, Bool, List, [], ◌∷◌, ◌++◌, Option, Some, None, Result, Ok, Err, if◌then◌else◌}
+use Rattle.std.specs.Prelude.{◌≡◌, ◌≤◌, ◌<◌, ℕ, zero, suc, ◌+◌, ◌-◌, ◌*◌, ◌^◌, ◌==◌, ◌&&◌, ℤ, pos, neg_ℤ, ◌-ℤ◌, nat_abs, int_le, int_lt, nat_le, Bool, true, false, List, [], ◌∷◌, ◌++◌, Option, Some, None, Result, Ok, Err, if◌then◌else◌}
 use Rattle.dp_num.specs.Limits.{capped, powers}
 use Rattle.dp_domain.specs.declared.domains.Domain.{Domain}
 use Rattle.dp_domain.specs.declared.domains.Domain.TheVariants as domain
@@ -26,6 +26,11 @@ all_draws = 2 ^ 62
 unfoldable pub weight_table : ℕ → ℕ → ℕ → ℕ → List ℕ
 weight_table first low high zero = first ∷ []
 weight_table first low high (suc s) = weight_table first low high s ++ weight first low high (suc s) ∷ []
+
+-- a table of these weights, or none where the greatest of them is greater than the bound of the draw
+abbrev pub IsTable : ℕ → ℕ → ℕ → ℕ → Option (List ℕ) → Type 0
+IsTable first low high most (Some table) = (table ≡ weight_table first low high most) × (weight first low high most ≤ all_draws)
+IsTable first low high most None = all_draws < weight first low high most
 
 -- the category that is chosen on a value
 abbrev pub choose : ℕ → ℕ → ℕ → ℕ → ℤ → ℤ → Value → List ℕ → List Piece
@@ -59,9 +64,14 @@ is_score_range floor top = int_le (neg_ℤ (pos (2 ^ 61))) floor && int_lt floor
 abbrev pub weights_fit : ℕ → ℕ → ℕ → ℕ → Bool
 weights_fit len most p q = nat_le (len * most) all_draws && nat_le (len * most * (q + p)) (all_draws * first_weight * (q - p))
 
--- the range of the scores and the weight of the greatest score
-unfoldable pub is_choice : ℕ → ℕ → ℕ → ℤ → ℤ → ℕ → ℕ → Bool
+-- the range of the scores is one, and the greatest of the weights fits
+abbrev pub is_choice : ℕ → ℕ → ℕ → ℤ → ℤ → ℕ → ℕ → Bool
 is_choice len p q floor top low high = is_score_range floor top && weights_fit len (weight first_weight low high (nat_abs (top -ℤ floor))) p q
+
+-- the table of the weights, or none where there is no choice
+abbrev pub IsFittingTable : ℕ → ℕ → ℕ → ℤ → ℤ → ℕ → ℕ → Option (List ℕ) → Type 0
+IsFittingTable len p q floor top low high (Some table) = (table ≡ weight_table first_weight low high (nat_abs (top -ℤ floor))) × (is_choice len p q floor top low high ≡ true)
+IsFittingTable len p q floor top low high None = is_choice len p q floor top low high ≡ false
 
 -- the powers are there, the scores are in range, and the weights fit
 abbrev pub choice_with : ℕ → ℤ → ℤ → ℕ → ℕ → ℕ → ℤ → ℤ → Option (ℕ × ℕ) → Result Mechanism Refused

@@ -22,7 +22,8 @@ use Rattle.dp_law.specs.declared.pieces.Piece.TheVariants as piece
 use Rattle.dp_law.specs.Mechanism.{ways, IsBelowOne, IsBound, IsPrivate}
 use Rattle.dp_law.proofs.Caps.{capped-same, capped-le}
 use Rattle.dp_choice.specs.Choosing.{weight, weights, share, chosen, chosen_by}
-use Rattle.dp_choice.specs.Choice.{choose, choice_loss, choice_of}
+use Rattle.dp_choice.specs.Choice.{first_weight, all_draws, choose, choice_loss, choice_of, choice}
+use Rattle.dp_choice.specs.ChoicePrivacy.{HasRoom}
 use Rattle.dp_choice.specs.ChoiceWays.{IsShareOf, WaysLaw}
 use Rattle.dp_choice.specs.WeightLaws.{length-weights, weights-near, cell-near, cell-least, weights-most, weights-positive, l1-swap, l1-zero}
 use Rattle.dp_choice.specs.PlaceLaws.{shares-rise, chosen-interval, chosen-below, share-bounds}
@@ -178,3 +179,9 @@ choice_law_of n first len lo hi p q u floor top low high positive few a input ra
   limited = λ d k is. loss-limited (eqb d 0) u d k is;
   private = λ d k v w answer is has_v has_w near. private-at n first len lo hi p q u floor top low high d k v w answer is a (omega (arith, ratio.1)) b c lows highs f fits (omega (arith, input.0.0)) has_v has_w near;
 }
+
+-- the law of weighted choice
+pub choice_law : (len : ℕ) (lo hi : ℤ) (p q u : ℕ) (floor top : ℤ) (low high : ℕ) → Fits (domain.IntVec len lo hi) → IsBelowOne p q → 1 ≤ low → low < high → low ≡ p ^ u → high ≡ q ^ u → floor ≤ℤ top →
+    HasRoom all_draws first_weight len p q floor top low high → IsPrivate (choice len lo hi p q u floor top low high)
+choice_law len lo hi p q u floor top low high input ratio b c lows highs f fits =
+    choice_law_of all_draws first_weight len lo hi p q u floor top low high (omega arith) (omega arith) (omega arith) input ratio b (omega arith) lows highs f fits

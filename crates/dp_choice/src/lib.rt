@@ -3,4 +3,7 @@
 //! of the draws, rounded down. How many draws choose a cell is known exactly.
 #![tactic(auto)]
 
+mod choosing;
 pub mod laws;
+
+pub use choosing::Choice;

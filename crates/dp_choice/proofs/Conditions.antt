@@ -1,0 +1,57 @@
+-- What the conditions of a choice tell.
+use Rattle.std.proofs.Common.{◌≡◌, ℕ, ◌+◌, ◌-◌, ◌*◌, ◌^◌, ◌≤◌, ◌<◌, Bool, true, false, ◌&&◌, refl, arith, ℤ, pos, neg_ℤ, ◌-ℤ◌, ◌≤ℤ◌, nat_abs, w64, to_z, of_z}
+use Rattle.std.specs.Prelude.{int_le, int_lt, nat_le}
+use Rattle.std.proofs.lemmas.Int.{ints, to_z-of_z}
+use mir.Val.{SFits}
+use Rattle.std.proofs.lemmas.Bool.Decides.{nat_tests}
+use Rattle.dp_domain.specs.declared.domains.Domain.TheVariants as domain
+use Rattle.dp_domain.specs.Domains.{Fits}
+use Rattle.dp_choice.specs.Choosing.{weight}
+use Rattle.dp_choice.specs.Choice.{first_weight, all_draws, is_score_range, weights_fit, is_choice}
+use Rattle.dp_choice.specs.ChoicePrivacy.{HasRoom}
+
+both-of : (a b : Bool) → (a && b) ≡ true → (a ≡ true) × (b ≡ true)
+both-of true b e = (refl, e)
+both-of false b e = absurd (cc)
+
+all-of : (a b c d : Bool) → (a && b && c && d) ≡ true → (a ≡ true) × (b ≡ true) × (c ≡ true) × (d ≡ true)
+all-of true true true true e = (refl, refl, refl, refl)
+all-of false b c d e = absurd (cc)
+all-of true false c d e = absurd (cc)
+all-of true true false d e = absurd (cc)
+all-of true true true false e = absurd (cc)
+
+range-of : (floor top : ℤ) → is_score_range floor top ≡ true → (neg_ℤ (pos (2 ^ 61)) ≤ℤ floor) × (floor ≤ℤ top) × (top ≤ℤ pos (2 ^ 61)) × ((top -ℤ floor) ≤ℤ pos 65535)
+range-of floor top e =
+    let all = all-of (int_le (neg_ℤ (pos (2 ^ 61))) floor) (int_lt floor top) (int_le top (pos (2 ^ 61))) (int_le (top -ℤ floor) (pos 65535)) e in
+    (omega (arith, ints, all.0), omega (arith, ints, all.1), omega (arith, ints, all.2), omega (arith, ints, all.3))
+
+nat-le : (t : Bool) (a b : ℕ) → nat_le a b ≡ t → t ≡ true → a ≤ b
+nat-le true a b e h = grind (arith, nat_tests)
+nat-le false a b e h = absurd (cc)
+
+room-of : (len most p q : ℕ) → p < q → weights_fit len most p q ≡ true → (len * most ≤ all_draws) × (all_draws * first_weight * p + len * most * (q + p) ≤ all_draws * first_weight * q)
+room-of len most p q order e =
+    let fits = both-of (nat_le (len * most) all_draws) _ e in
+    let sum = nat-le _ (len * most) all_draws refl fits.0 in
+    let room = nat-le _ (len * most * (q + p)) (all_draws * first_weight * (q - p)) refl fits.1 in
+    (sum, omega (arith, room))
+
+pub is-choice : (len p q : ℕ) (floor top : ℤ) (low high : ℕ) → p < q → is_choice len p q floor top low high ≡ true →
+    (neg_ℤ (pos (2 ^ 61)) ≤ℤ floor) × (floor ≤ℤ top) × (top ≤ℤ pos (2 ^ 61)) × ((top -ℤ floor) ≤ℤ pos 65535) × (len * weight first_weight low high (nat_abs (top -ℤ floor)) ≤ all_draws) × HasRoom all_draws first_weight len p q floor top low high
+is-choice len p q floor top low high order e =
+    let both = both-of (is_score_range floor top) _ e in
+    let range = range-of floor top both.0 in
+    let room = room-of len (weight first_weight low high (nat_abs (top -ℤ floor))) p q order both.1 in
+    (range.0, range.1, range.2, range.3, room.0, room.1)
+
+fits-word : (z : ℤ) → neg_ℤ (pos (2 ^ 61)) ≤ℤ z → z ≤ℤ pos (2 ^ 61) → SFits w64 z
+fits-word z least greatest = omega (arith, ints)
+
+-- the bounds of a domain are words
+pub fits-words : (len : ℕ) (lo hi : ℤ) → Fits (domain.IntVec len lo hi) → Fits (domain.IntVec len (to_z w64 (of_z w64 lo)) (to_z w64 (of_z w64 hi)))
+fits-words len lo hi f =
+    let least = f.1.0 in
+    let ordered = f.1.1 in
+    let greatest = f.1.2 in
+    rw (to_z-of_z w64 lo (fits-word lo least (omega (arith, ints))), to_z-of_z w64 hi (fits-word hi (omega (arith, ints)) greatest)) f

@@ -1,0 +1,530 @@
+ghost use Rattle.std.specs.Prelude.{◌≡◌, ◌≤◌, ◌<◌, ◌+◌, ◌-◌, ◌*◌, ◌/◌, ◌^◌, ◌≤ℤ◌, ◌<ℤ◌, ◌-ℤ◌, pos, neg_ℤ, nat_abs, [], ◌∷◌, true, length, if◌then◌else◌, nat_le, slice_index, Some, None, IfOk, IsTrue};
+ghost use Rattle.std.specs.Option.{option_map};
+ghost use Rattle.std.specs.Result.{result_ok};
+ghost use Rattle.std.specs.List.{sum};
+ghost use Rattle.std.specs.Int.{int_min, int_max};
+ghost use Rattle.dp_count.specs.Faults.{HasCause};
+ghost use Rattle.dp_draws.specs.Taking.{take_draws};
+ghost use Rattle.dp_domain.specs.Domains.{Fits, Has};
+ghost use Rattle.dp_domain.proofs.Limits.{Fits-prop};
+ghost use Rattle.dp_domain.specs.declared.domains.Domain.TheVariants as domain;
+ghost use Rattle.dp_domain.specs.declared.values.Value.TheVariants as value;
+ghost use Rattle.dp_law.specs.declared.pieces.Piece.TheVariants as piece;
+ghost use Rattle.dp_law.specs.Making.{MakesOr};
+ghost use Rattle.dp_law.specs.Releasing.{Released, ReleaseCause, MemoryFirst};
+ghost use Rattle.dp_choice.specs.Choosing.{weight, score, weights, chosen};
+ghost use Rattle.dp_choice.specs.Choice.{first_weight, all_draws, weight_table, IsTable, IsFittingTable, is_score_range, weights_fit, choice_from};
+ghost use Rattle.dp_choice.specs.ChoicePrivacy.{HasRoom};
+
+use dp_count::{Failed, NoMemory, Shape};
+use dp_domain::{Cells, Domain, Metric, Value};
+use dp_draws::Draws;
+use dp_law::{Answer, MakeFault, Measurement, Piece, ReleaseFault};
+use dp_num::{Past, Ratio};
+use std::alloc::Global;
+
+/// The bound of the draw.
+const ALL_DRAWS: u64 = 1 << 62;
+
+/// The weight of the score 0.
+const FIRST_WEIGHT: u64 = 65_536;
+
+/// The greatest bound of the scores' range.
+const MOST: i64 = 1 << 61;
+
+/// The greatest score.
+const MOST_SCORE: i64 = 65_535;
+
+/// The greatest number of units of loss.
+const MOST_UNITS: u64 = 4_294_967_296;
+
+/// Weighted choice of a vector's cell, for the ratio p/q and u units. A cell's score is how far its number is above
+/// `floor` after it is brought into `floor`..=`top`, and with each step of the score its weight grows by q^u / p^u.
+#[derive(Debug, Drop)]
+pub struct Choice {
+    len: u32,
+    lo: i64,
+    hi: i64,
+    ratio: Ratio,
+    u: u64,
+    floor: i64,
+    top: i64,
+    low: u64,
+    high: u64,
+    table: Vec<u64>,
+    ghost input_fits: { Fits (domain.IntVec len lo hi) } by { Fits-prop (domain.IntVec len lo hi) },
+    ghost low_is: { low ≡ ratio.p ^ u },
+    ghost high_is: { high ≡ ratio.q ^ u },
+    ghost positive: { 1 ≤ low },
+    ghost below_one: { low < high },
+    ghost least: { neg_ℤ (pos (2 ^ 61)) ≤ℤ floor },
+    ghost ordered: { floor ≤ℤ top },
+    ghost greatest: { top ≤ℤ pos (2 ^ 61) },
+    ghost narrow: { (top -ℤ floor) ≤ℤ pos 65535 },
+    ghost table_is: { table.items ≡ weight_table first_weight low high (nat_abs (top -ℤ floor)) },
+    ghost sum_fits: { len * weight first_weight low high (nat_abs (top -ℤ floor)) ≤ all_draws },
+    ghost room: { HasRoom all_draws first_weight len ratio.p ratio.q floor top low high },
+}
+
+impl Choice {
+    /// Weighted choice with `u` units and scores from `floor` to `top` on the domain. `Kind` comes exactly where the
+    /// domain is not `IntVec`, `Metric` exactly where it is and the metric is not `L1`, and `Bound` exactly where
+    /// neither comes and the powers p^u and q^u are refused, not -2^61 ≤ floor < top ≤ 2^61, top - floor is greater than
+    /// 65,535, or the weights don't fit: the greatest weight times the vector's length is greater than 2^62, or it leaves
+    /// no room for rounding the shares.
+    pub fn new(
+        alloc: Global,
+        domain: Domain,
+        metric: Metric,
+        ratio: Ratio,
+        u: u64,
+        floor: i64,
+        top: i64,
+    ) -> Result<Choice, MakeFault>
+        requires { Fits domain }
+        ensures { MakesOr ⟦<Choice as Measurement>⟧.mechanism result (choice_from ratio.p ratio.q u floor top domain metric) }
+    {
+        let Domain::IntVec { len, lo, hi } = domain else {
+            return Err(MakeFault::Kind);
+        };
+        let Metric::L1 = metric else {
+            return Err(MakeFault::Metric);
+        };
+        let Ok((low, high)) = ratio.powers(u) else {
+            return Err(MakeFault::Bound);
+        };
+        let Some(table) = fitting_table(alloc, len, &ratio, low, high, &floor, &top)? else {
+            return Err(MakeFault::Bound);
+        };
+        Ok(Choice {
+            len,
+            lo,
+            hi,
+            ratio,
+            u,
+            floor,
+            top,
+            low,
+            high,
+            table,
+        })
+    }
+
+    /// The place of the cell of `v`, a vector of the domain, that one draw below 2^62 chooses. It takes no memory and
+    /// goes over the cells twice. `Failed` comes exactly where the draw fails.
+    pub fn step<D: Draws>(&self, v: &Cells, draws: &mut D) -> Result<u32, Failed>
+        requires { let m = ⟦<Choice as Measurement>⟧.mechanism self.now in Has m.input_domain (value.IntVec v.now) }
+        ensures place { let m = ⟦<Choice as Measurement>⟧.mechanism self.now in option_map (λ j. piece.Cat j ∷ []) (result_ok result) ≡ option_map (m.function (value.IntVec v.now)) (take_draws D.step (D.state draws.old) m.shape).draws }
+        ensures last { let m = ⟦<Choice as Measurement>⟧.mechanism self.now in D.state draws.new ≡ (take_draws D.step (D.state draws.old) m.shape).last }
+        ensures cause { HasCause (D.faults draws.old) (D.faults draws.new) result }
+    {
+        let draw = draws.below(ALL_DRAWS)?;
+        let total = self.total(v.as_slice());
+        Ok(self.place(v.as_slice(), total, draw))
+    }
+
+    /// The weight of a cell's score.
+    fn weight(&self, cell: i64) -> u64
+        ensures value { result ≡ weight first_weight self.now.low self.now.high (score self.now.floor self.now.top cell) }
+    {
+        entry(&self.table, self.score(cell))
+    }
+
+    /// How far a number is above `floor`, after it is brought into the range of the scores.
+    fn score(&self, cell: i64) -> u64
+        ensures value { result ≡ score self.now.floor self.now.top cell }
+        ensures few { result ≤ nat_abs (self.now.top -ℤ self.now.floor) }
+    {
+        self.above(self.nearest(cell))
+    }
+
+    /// How far a number of the range of the scores is above `floor`.
+    fn above(&self, near: i64) -> u64
+        requires least { self.now.floor ≤ℤ near }
+        requires greatest { near ≤ℤ self.now.top }
+        ensures value { result ≡ nat_abs (near -ℤ self.now.floor) }
+        ensures few { result ≤ nat_abs (self.now.top -ℤ self.now.floor) }
+    {
+        (near - self.floor) as u64
+    }
+
+    /// The number of the range of the scores that is nearest to `z`.
+    fn nearest(&self, z: i64) -> i64
+        ensures value { result ≡ int_min (int_max z self.now.floor) self.now.top }
+        ensures least { self.now.floor ≤ℤ result }
+        ensures greatest { result ≤ℤ self.now.top }
+    {
+        z.max(self.floor).min(self.top)
+    }
+
+    /// The sum of the weights of the cells' scores.
+    fn total(&self, cells: &[i64]) -> u64
+        requires { length cells.now ≡ self.now.len }
+        ensures value { result ≡ sum (weights first_weight self.now.low self.now.high self.now.floor self.now.top cells.now) }
+        ensures few { result ≤ all_draws }
+        ensures positive { 1 ≤ result }
+    {
+        let mut total = 0;
+        for cell in cells {
+            total += self.weight(*cell);
+        }
+        total
+    }
+
+    /// The last place before which the weights' share of all draws is at most the draw.
+    fn place(&self, cells: &[i64], total: u64, draw: u64) -> u32
+        requires len { length cells.now ≡ self.now.len }
+        requires total { total ≡ sum (weights first_weight self.now.low self.now.high self.now.floor self.now.top cells.now) }
+        requires few { total ≤ all_draws }
+        requires positive { 1 ≤ total }
+        ensures { result ≡ chosen all_draws (weights first_weight self.now.low self.now.high self.now.floor self.now.top cells.now) draw }
+    {
+        let mut chosen = 0;
+        let mut before = 0;
+        let mut place = 0;
+        for cell in cells {
+            chosen = later(share(before, total), draw, place, chosen);
+            before += self.weight(*cell);
+            place += 1;
+        }
+        chosen
+    }
+}
+
+/// The weight of a score in the table.
+fn entry(table: &[u64], score: u64) -> u64
+    requires { score < length table.now }
+    ensures { result ≡ slice_index table.now score }
+{
+    table[score as usize]
+}
+
+/// The place, where its share is at most the draw, and else the place that was chosen before.
+fn later(share: u64, draw: u64, place: u32, chosen: u32) -> u32
+    ensures { result ≡ (if nat_le share draw then place else chosen) }
+{
+    if share <= draw { place } else { chosen }
+}
+
+/// The share of all draws that weights with the sum `before` have in `total`, rounded down.
+fn share(before: u64, total: u64) -> u64
+    requires few { before ≤ total }
+    requires positive { 1 ≤ total }
+    ensures { result ≡ all_draws * before / total }
+{
+    (u128::from(ALL_DRAWS) * u128::from(before) / u128::from(total)) as u64
+}
+
+/// The weights of the scores from 0 to top - floor, or none where these bounds are refused or the weights don't fit.
+fn fitting_table(
+    alloc: Global,
+    len: u32,
+    ratio: &Ratio,
+    low: u64,
+    high: u64,
+    floor: &i64,
+    top: &i64,
+) -> Result<Option<Vec<u64>>, NoMemory>
+    requires some { 1 ≤ len }
+    requires positive { 1 ≤ low }
+    requires order { low ≤ high }
+    ensures { IfOk result (λ table. IsFittingTable len ratio.now.p ratio.now.q floor.now top.now low high (option_map (λ t. t.items) table)) }
+{
+    if !is_score_range(floor, top) {
+        return Ok(None);
+    }
+    let most = width(floor, top);
+    let Some(table) = weight_table(alloc, low, high, most)? else {
+        return Ok(None);
+    };
+    if !weights_fit(len, entry(&table, most), ratio.p(), ratio.q()) {
+        return Ok(None);
+    }
+    Ok(Some(table))
+}
+
+/// The greatest score of a range of scores.
+fn width(floor: &i64, top: &i64) -> u64
+    requires { IsTrue (is_score_range floor.now top.now) }
+    ensures value { result ≡ nat_abs (top.now -ℤ floor.now) }
+    ensures few { result ≤ 65535 }
+{
+    (*top - *floor) as u64
+}
+
+/// Whether the bounds of the scores' range are in order, from -2^61 to 2^61, and at most 65,535 apart.
+fn is_score_range(floor: &i64, top: &i64) -> bool
+    ensures { result ≡ is_score_range floor.now top.now }
+{
+    -MOST <= *floor && *floor < *top && *top <= MOST && *top - *floor <= MOST_SCORE
+}
+
+/// Whether the sum of the weights is at most 2^62 and each share leaves room for its rounding.
+fn weights_fit(len: u32, most: u64, p: u64, q: u64) -> bool
+    requires order { p < q }
+    requires small { q ≤ 65536 }
+    requires few { most ≤ all_draws }
+    ensures { result ≡ weights_fit len most p q }
+{
+    let sum = u128::from(len) * u128::from(most);
+    sum <= u128::from(ALL_DRAWS)
+        && sum * u128::from(q + p)
+            <= u128::from(ALL_DRAWS) * u128::from(FIRST_WEIGHT) * u128::from(q - p)
+}
+
+/// The weights of the scores from 0 to `most`, or none where one of them is greater than 2^62.
+fn weight_table(alloc: Global, low: u64, high: u64, most: u64) -> Result<Option<Vec<u64>>, NoMemory>
+    requires positive { 1 ≤ low }
+    requires order { low ≤ high }
+    requires few { most ≤ 65535 }
+    ensures { IfOk result (λ table. IsTable first_weight low high most (option_map (λ t. t.items) table)) }
+{
+    let mut table = Vec::new(alloc);
+    let mut weight = FIRST_WEIGHT;
+    table.push(weight)?;
+    for _score in 0..most {
+        let Some(next) = next_weight(weight, low, high) else {
+            return Ok(None);
+        };
+        weight = next;
+        table.push(weight)?;
+    }
+    Ok(Some(table))
+}
+
+/// The weight one score higher, where it is at most 2^62.
+fn next_weight(weight: u64, low: u64, high: u64) -> Option<u64>
+    requires { 1 ≤ low }
+    ensures { result ≡ (if nat_le (weight * high / low) all_draws then Some (weight * high / low) else None) }
+{
+    let next = u128::from(weight) * u128::from(high) / u128::from(low);
+    if next > u128::from(ALL_DRAWS) {
+        return None;
+    }
+    Some(next as u64)
+}
+
+impl Measurement for Choice {
+    ghost use Rattle.dp_choice.specs.Choice.{choice};
+    ghost use Rattle.dp_choice.specs.ChoiceLaw.{choice_law};
+
+    ghost mechanism = { λ c. choice c.len c.lo c.hi c.ratio.p c.ratio.q c.u c.floor c.top c.low c.high };
+
+    fn in_domain(&self) -> Domain {
+        Domain::IntVec {
+            len: self.len,
+            lo: self.lo,
+            hi: self.hi,
+        }
+    }
+
+    fn in_metric(&self) -> Metric {
+        Metric::L1
+    }
+
+    fn draws(&self) -> u64 {
+        1
+    }
+
+    fn pieces(&self) -> u64 {
+        1
+    }
+
+    fn shape(&self, alloc: Global) -> Result<Shape, NoMemory> {
+        Shape::one(alloc, ALL_DRAWS)
+    }
+
+    fn loss(&self, d: u64) -> Result<u64, Past> {
+        if d == 0 {
+            return Ok(0);
+        }
+        let Some(steps) = self.u.checked_mul(2 * d) else {
+            return Err(Past);
+        };
+        if steps >= MOST_UNITS {
+            return Err(Past);
+        }
+        Ok(steps + 1)
+    }
+
+    fn release<D: Draws>(
+        &self,
+        alloc: Global,
+        v: &Value,
+        draws: &mut D,
+    ) -> Result<Answer, ReleaseFault>
+        requires { let m = ⟦<Choice as Measurement>⟧.mechanism self.now in Has m.input_domain v.now }
+        ensures released { let m = ⟦<Choice as Measurement>⟧.mechanism self.now in Released D.step m.shape (m.function v.now) (D.state draws.old) result (D.state draws.new) }
+        ensures cause { ReleaseCause (D.faults draws.old) (D.faults draws.new) result }
+        ensures memory_first { MemoryFirst (D.state draws.old) result (D.state draws.new) }
+    {
+        let Value::IntVec(cells) = v else {
+            unreachable!()
+        };
+        let mut answer = Vec::with_capacity(alloc, 1)?;
+        let Ok(place) = self.step(cells, draws) else {
+            return Err(ReleaseFault::DrawFault);
+        };
+        answer.push(Piece::Cat(place)).unwrap();
+        Ok(Answer::from_vec(answer))
+    }
+
+    ghost law = { λ c. choice_law c.len c.lo c.hi c.ratio.p c.ratio.q c.u c.floor c.top c.low c.high c.input_fits (c.ratio.positive, c.ratio.below_one, c.ratio.small) c.positive c.below_one c.low_is c.high_is c.ordered c.room };
+}
+
+#[cfg(test)]
+mod tests {
+    use super::*;
+    use dp_draws::{NoDraws, Replay};
+    use std::test::Fail;
+
+    const CELLS: Domain = Domain::IntVec {
+        len: 2,
+        lo: 0,
+        hi: 1,
+    };
+
+    /// Weighted choice for the ratio p/q, where the domain fits.
+    fn choice(
+        alloc: Global,
+        domain: Domain,
+        metric: Metric,
+        (p, q): (u64, u64),
+        u: u64,
+        floor: i64,
+        top: i64,
+    ) -> Result<Choice, MakeFault> {
+        let Ok(ratio) = Ratio::new(p, q) else {
+            return Err(MakeFault::Bound);
+        };
+        if !domain.fits() {
+            return Err(MakeFault::Bound);
+        }
+        Choice::new(alloc, domain, metric, ratio, u, floor, top)
+    }
+
+    /// The choice for the ratio 1/2 on two cells.
+    fn of_two(alloc: Global, floor: i64, top: i64) -> Result<Choice, MakeFault> {
+        choice(alloc, CELLS, Metric::L1, (1, 2), 1, floor, top)
+    }
+
+    /// The place that a choice gives on two cells at one draw.
+    fn place(alloc: Global, m: &Choice, cells: [i64; 2], draw: u64) -> Option<u32> {
+        let value = Value::IntVec(Cells::from_vec(Vec::from_array(alloc, cells).ok()?));
+        if !m.in_domain().has(&value) {
+            return None;
+        }
+        let Value::IntVec(cells) = &value else {
+            return None;
+        };
+        let mut source = Replay::new(Vec::from_array(alloc, [draw]).ok()?);
+        m.step(cells, &mut source).ok()
+    }
+
+    /// What a measurement releases on a value of its domain, from these draws.
+    fn released<M: Measurement, D: Draws>(
+        alloc: Global,
+        m: &M,
+        v: &Value,
+        draws: &mut D,
+    ) -> Result<Answer, ReleaseFault> {
+        if !m.in_domain().fits() || !m.in_domain().has(v) {
+            return Err(ReleaseFault::NoMemory);
+        }
+        m.release(alloc, v, draws)
+    }
+
+    #[test]
+    fn choice_halves(rt: HostRuntime) {
+        let made = of_two(rt.alloc(), 0, 1).expect(&rt, "made");
+        for (cells, draw, given) in [
+            ([1, 0], 0, 0),
+            ([1, 0], 3_074_457_345_618_258_601, 0),
+            ([1, 0], 3_074_457_345_618_258_602, 1),
+            ([0, 0], 2_305_843_009_213_693_951, 0),
+            ([0, 0], 2_305_843_009_213_693_952, 1),
+        ] {
+            assert!(rt; place(rt.alloc(), &made, cells, draw) == Some(given));
+        }
+    }
+
+    #[test]
+    fn scores_stay_between_floor_and_top(rt: HostRuntime) {
+        let domain = Domain::IntVec {
+            len: 2,
+            lo: -9,
+            hi: 9,
+        };
+        let made = choice(rt.alloc(), domain, Metric::L1, (1, 2), 1, 0, 1).expect(&rt, "made");
+        for (draw, given) in [
+            (3_074_457_345_618_258_601, 0),
+            (3_074_457_345_618_258_602, 1),
+        ] {
+            assert!(rt; place(rt.alloc(), &made, [9, -9], draw) == Some(given));
+        }
+    }
+
+    #[test]
+    fn a_choice_is_released_as_one_piece(rt: HostRuntime) -> Result<(), Fail> {
+        let made = of_two(rt.alloc(), 0, 1).expect(&rt, "made");
+        let shape = made.shape(rt.alloc()).expect(&rt, "memory");
+        assert_eq!(rt; (made.draws(), made.pieces(), shape.len()), (1, 1, 1));
+        assert_eq!(rt; shape.at(0), 4_611_686_018_427_387_904);
+        let value = Value::IntVec(Cells::from_vec(Vec::from_array(rt.alloc(), [1, 0])?));
+        let mut last = Replay::new(Vec::from_array(rt.alloc(), [4_611_686_018_427_387_903])?);
+        let answer = released(rt.alloc(), &made, &value, &mut last).expect(&rt, "released");
+        assert_eq!(rt; answer.len(), 1);
+        assert!(rt; matches!(answer.at(0), Piece::Cat(1)));
+        assert!(rt;
+            matches!(
+                released(rt.alloc(), &made, &value, &mut NoDraws::new()),
+                Err(ReleaseFault::DrawFault)
+            )
+        );
+        Ok(())
+    }
+
+    #[test]
+    fn a_choice_costs_one_unit_for_rounding(rt: HostRuntime) {
+        let made = of_two(rt.alloc(), 0, 45).expect(&rt, "made");
+        for (d, loss) in [
+            (0, Ok(0)),
+            (1, Ok(3)),
+            (3, Ok(7)),
+            (2_147_483_647, Ok(4_294_967_295)),
+            (2_147_483_648, Err(Past)),
+            (4_294_967_296, Err(Past)),
+        ] {
+            assert_eq!(rt; made.loss(d), loss);
+        }
+    }
+
+    #[test]
+    fn kind_metric_and_bound_are_refused(rt: HostRuntime) {
+        for (domain, metric, u, floor, top, refusal) in [
+            (Domain::Texts, Metric::L1, 0, 1, 0, MakeFault::Kind),
+            (CELLS, Metric::Absolute, 0, 1, 0, MakeFault::Metric),
+            (CELLS, Metric::L1, 0, 0, 1, MakeFault::Bound),
+            (CELLS, Metric::L1, 62, 0, 1, MakeFault::Bound),
+            (CELLS, Metric::L1, 1, 1, 1, MakeFault::Bound),
+            (CELLS, Metric::L1, 1, 0, 46, MakeFault::Bound),
+            (CELLS, Metric::L1, 1, 0, 65_536, MakeFault::Bound),
+            (CELLS, Metric::L1, 1, -MOST - 1, -MOST, MakeFault::Bound),
+            (CELLS, Metric::L1, 1, MOST, MOST + 1, MakeFault::Bound),
+        ] {
+            let given = choice(rt.alloc(), domain, metric, (1, 2), u, floor, top);
+            assert!(rt; given.err() == Some(refusal));
+        }
+        assert!(rt; of_two(rt.alloc(), -MOST, -MOST + 45).is_ok());
+        assert!(rt; of_two(rt.alloc(), MOST - 45, MOST).is_ok());
+    }
+
+    #[test]
+    fn the_widest_range_has_65_535_scores_above_the_least(rt: HostRuntime) {
+        let slow = (65_535, 65_536);
+        let widest = choice(rt.alloc(), CELLS, Metric::L1, slow, 1, -5, 65_530);
+        assert!(rt; widest.is_ok());
+        let wider = choice(rt.alloc(), CELLS, Metric::L1, slow, 1, -5, 65_531);
+        assert!(rt; wider.err() == Some(MakeFault::Bound));
+    }
+}
