@@ -449,6 +449,16 @@ mod tests {
     }
 
     #[test]
+    fn each_weight_is_rounded_down(rt: HostRuntime) {
+        let table = weight_table(rt.alloc(), 9, 10, 5).expect(&rt, "memory");
+        let weights = table.expect(&rt, "weights below 2^62");
+        let wanted = [65_536, 72_817, 80_907, 89_896, 99_884, 110_982];
+        assert!(rt; weights.as_slice() == wanted.as_slice());
+        let past = weight_table(rt.alloc(), 1, 2, 47).expect(&rt, "memory");
+        assert!(rt; past.is_none());
+    }
+
+    #[test]
     fn scores_stay_between_floor_and_top(rt: HostRuntime) {
         let domain = Domain::IntVec {
             len: 2,

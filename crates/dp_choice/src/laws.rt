@@ -12,3 +12,22 @@ pub fn ways_law()
 pub fn privacy_law()
     ensures { PrivacyLaw }
 {}
+
+#[cfg(test)]
+mod tests {
+    use super::*;
+
+    /// A call gives its law to the function that makes it.
+    fn given()
+        ensures ways { WaysLaw }
+        ensures privacy { PrivacyLaw }
+    {
+        ways_law();
+        privacy_law();
+    }
+
+    #[test]
+    fn a_call_gives_its_law(_rt: HostRuntime) {
+        given();
+    }
+}

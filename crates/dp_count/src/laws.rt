@@ -56,15 +56,31 @@ pub fn ratio_law()
 mod tests {
     use super::*;
 
-    #[test]
-    fn the_laws_can_be_cited(_rt: HostRuntime) {
+    /// A call gives its law to the function that makes it.
+    fn given<R>()
+        ensures product { ProductLaw }
+        ensures cut { CutLaw }
+        ensures block { BlockLaw }
+        ensures run { RunLaw }
+        ensures interval { IntervalLaw }
+        ensures either { EitherLaw }
+        ensures partition { PartitionLaw R }
+        ensures slots { SlotsLaw R }
+        ensures slots_ratio { SlotsRatioLaw R }
+        ensures ratio { RatioListLaw }
+    {
         product_law();
         block_law();
         run_law();
         interval_law();
         sum_law();
-        partition_law::<u64>();
-        slots_law::<u64>();
+        partition_law::<R>();
+        slots_law::<R>();
         ratio_law();
+    }
+
+    #[test]
+    fn a_call_gives_its_law(_rt: HostRuntime) {
+        given::<u64>();
     }
 }

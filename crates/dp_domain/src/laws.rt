@@ -44,13 +44,25 @@ pub fn wider_law()
 mod tests {
     use super::*;
 
-    #[test]
-    fn the_laws_can_be_cited(_rt: HostRuntime) {
-        distance_law::<u8>();
-        order_law::<u8>();
-        split_law::<u8>();
-        map_law::<u8, i64>();
-        total_law::<u8>();
+    /// A call gives its law to the function that makes it.
+    fn given<E, F>()
+        ensures triangle { TriangleLaw E }
+        ensures order { OrderLaw E }
+        ensures split { SplitLaw E }
+        ensures filter_map { FilterMapLaw E F }
+        ensures sum { SumLaw E }
+        ensures wider { WiderLaw }
+    {
+        distance_law::<E>();
+        order_law::<E>();
+        split_law::<E>();
+        map_law::<E, F>();
+        total_law::<E>();
         wider_law();
+    }
+
+    #[test]
+    fn a_call_gives_its_law(_rt: HostRuntime) {
+        given::<u64, i64>();
     }
 }

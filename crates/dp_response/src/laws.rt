@@ -10,8 +10,15 @@ pub fn ways_law()
 mod tests {
     use super::*;
 
-    #[test]
-    fn the_law_can_be_cited(_rt: HostRuntime) {
+    /// A call gives its law to the function that makes it.
+    fn given()
+        ensures { WaysLaw }
+    {
         ways_law();
+    }
+
+    #[test]
+    fn a_call_gives_its_law(_rt: HostRuntime) {
+        given();
     }
 }
