@@ -160,6 +160,7 @@ impl Shelf for MemShelf {
         ensures others { (n : ℕ) → n < length self.old.rests → slice_get self.new.rests n ≡ slice_get self.old.rests n }
         ensures kept { OnErr result ((n : ℕ) → slice_get self.new.rests n ≡ slice_get self.old.rests n) }
         ensures later { counted self.old.calls.failed ≤ counted self.new.calls.failed }
+        ensures no_fault { OnOk result (counted self.new.calls.failed ≡ counted self.old.calls.failed) }
         ensures cause { result ≡ Err OpenFault.Failed → (Rose (counted self.old.calls.failed) (counted self.new.calls.failed) ⊎ LacksFile (Some (bytes_of self.old.stored)) name.now) }
         ensures failed { is_failed result ≡ (fails_next self.old.calls || is_none (bytes_of self.old.stored name.now)) }
         ensures ok { OnOk result (ForSome (bytes_of self.old.stored name.now) (λ bytes. self.new ≡ after_open self.old bytes)) }

@@ -32,6 +32,7 @@ pub trait Shelf {
         ensures others { (n : ℕ) → n < slots self.old → left self.new n ≡ left self.old n }
         ensures kept { OnErr result ((n : ℕ) → left self.new n ≡ left self.old n) }
         ensures later { faults self.old ≤ faults self.new }
+        ensures no_fault { OnOk result (faults self.new ≡ faults self.old) }
         ensures cause { result ≡ Err OpenFault.Failed → (Rose (faults self.old) (faults self.new) ⊎ LacksFile (files self.old) name.now) };
 
     /// Moves the next bytes of what is left of an open slot into a buffer that is not empty, and gives their number,

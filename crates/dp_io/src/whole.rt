@@ -26,6 +26,7 @@ pub fn read_whole<S: Shelf>(
     ensures long { result ≡ Err WholeFault.TooLong → ForSome (S.left shelf.old slot) (λ left. limit < length left) }
     ensures rest { OnErr result (KeepsRest (S.left shelf.old slot) (S.left shelf.new slot)) }
     ensures later { S.faults shelf.old ≤ S.faults shelf.new }
+    ensures no_fault { result ≢ Err WholeFault.Failed → S.faults shelf.new ≡ S.faults shelf.old }
     ensures cause { result ≡ Err WholeFault.Failed → Rose (S.faults shelf.old) (S.faults shelf.new) }
     ensures others { (n : ℕ) → n ≢ slot → S.left shelf.new n ≡ S.left shelf.old n }
     ensures same_files { S.files shelf.new ≡ S.files shelf.old }

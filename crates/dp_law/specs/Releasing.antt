@@ -25,13 +25,13 @@ MemoryFirst before (Ok answer) after = Unit {0}
 MemoryFirst before (Err fault.DrawFault) after = Unit {0}
 MemoryFirst before (Err fault.NoMemory) after = after ≡ before
 
--- a draw fault made the source's count of faults rise
+-- a draw fault made the source's count of faults rise, and any other answer left it as it was
 abbrev pub RoseAtFault : ℕ → ℕ → Result (List Piece) ReleaseFault → Type 0
-RoseAtFault before now (Ok answer) = Unit {0}
+RoseAtFault before now (Ok answer) = now ≡ before
 RoseAtFault before now (Err fault.DrawFault) = Rose before now
-RoseAtFault before now (Err fault.NoMemory) = Unit {0}
+RoseAtFault before now (Err fault.NoMemory) = now ≡ before
 
--- the count of faults did not fall, and it rose at a draw fault
+-- the count of faults did not fall, and it rose at a draw fault alone
 pub record ReleaseCause (before now : ℕ) (result : Result (List Piece) ReleaseFault) : Type 0 where
   pub later : before ≤ now
   pub failed : RoseAtFault before now result

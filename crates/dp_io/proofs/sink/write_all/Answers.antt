@@ -14,6 +14,6 @@ loop-done-preserved g c =
     let few : c.in_ok-done.field-0 ≤ length c.args.bytes.now - c.loop-done.done = omega (arith, c.in_ok-done.ensures.fits, length-take {A = ℕ}, length-drop {A = ℕ}) in (
       omega (arith, few, c.loop-done-test.true),
       rw (c.in_ok-done.ensures.gained, c.loop-done.invariant.1) (appended-next _ c.loop-done.done _ c.args.bytes.now),
-      omega (arith, c.in_ok-done.ensures.cause.later, c.loop-done.invariant.2),
+      omega (arith, c.in_ok-done.ensures.cause.kept, c.loop-done.invariant.2),
       λ none. absurd (omega (arith, c.in_ok-done.ensures.some)),
     )

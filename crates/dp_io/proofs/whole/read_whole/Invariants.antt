@@ -8,7 +8,7 @@ invariant-loop-bytes g l =
     × (0 < length l.buffer.items)
     × (g.S.Shelf.slots l.shelf ≡ g.S.Shelf.slots l.initial.shelf)
     × (g.S.Shelf.files l.shelf ≡ g.S.Shelf.files l.initial.shelf)
-    × (g.S.Shelf.faults l.initial.shelf ≤ g.S.Shelf.faults l.shelf)
+    × (g.S.Shelf.faults l.shelf ≡ g.S.Shelf.faults l.initial.shelf)
     × ((n : ℕ) → n ≢ l.slot → g.S.Shelf.left l.shelf n ≡ g.S.Shelf.left l.initial.shelf n)
     × (g.S.Shelf.left l.initial.shelf l.slot ≡ preceded l.bytes.items (g.S.Shelf.left l.shelf l.slot))
 
