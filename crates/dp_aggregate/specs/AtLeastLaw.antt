@@ -13,6 +13,7 @@ use Rattle.dp_domain.specs.declared.values.Value.TheVariants as value
 use Rattle.dp_domain.specs.Domains.{Fits, Has}
 use Rattle.dp_domain.specs.Metrics.{Within}
 use Rattle.dp_law.specs.Mapping.{IsStable}
+use Rattle.dp_law.proofs.Suits.{both-hold}
 use Rattle.dp_aggregate.specs.Edges.{edges_reached, is_within, is_rising, are_edges}
 use Rattle.dp_aggregate.specs.AtLeast.{at_least_value, at_least_mapping}
 
@@ -43,6 +44,7 @@ pub at_least_law : (edges : List ℤ) (lo hi : ℤ) → Fits (domain.Int lo hi) 
 at_least_law edges lo hi input good = record {
   input_fits = input;
   output_fits = at_least_fits (2 ^ 61) edges good;
+  suits = both-hold tt tt;
   lands = at_least_lands edges lo hi;
   limited = λ d e map_is. let same = map-is (min d 1) e map_is in omega arith;
   stable = λ d e v w map_is has_v has_w near. at_least_stable edges d e v w (map-is (min d 1) e map_is) near;

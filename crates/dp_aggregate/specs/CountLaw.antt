@@ -10,11 +10,12 @@ use Rattle.dp_domain.specs.declared.values.Value.{Value}
 use Rattle.dp_domain.specs.declared.values.Value.TheVariants as value
 use Rattle.dp_domain.specs.Distance.{diff, apart, text_eq, record_eq, opt_int_eq}
 use Rattle.dp_domain.specs.Domains.{Fits, Has}
-use Rattle.dp_domain.specs.Metrics.{Within}
+use Rattle.dp_domain.specs.Metrics.{Within, SuitsMetric}
 use Rattle.dp_domain.proofs.Distance.{diff-lengths}
 use Rattle.dp_domain.proofs.Equality.{nat_eq-decides, int_eq-decides, text_eq-decides, record_eq-decides, opt_int_eq-decides}
 use Rattle.dp_law.specs.Mapping.{IsStable}
 use Rattle.dp_law.proofs.Caps.{capped-same, capped-le}
+use Rattle.dp_law.proofs.Suits.{both-hold}
 use Rattle.dp_aggregate.specs.Count.{has_unsized_lists, count_value, count_mapping}
 
 count_lands : (lists : Domain) → IsTrue (has_unsized_lists lists) → (v : Value) → Has lists v → Has (domain.Int (pos 0) (pos (2 ^ 30))) (count_value v)
@@ -41,10 +42,19 @@ count_stable d (value.Ints xs) (value.Ints ys) near = lengths_near (length xs) (
 count_stable d (value.Cats xs) (value.Cats ys) near = lengths_near (length xs) (length ys) (diff nat_eq xs ys) d (diff-lengths nat_eq nat_eq-decides xs ys) near
 count_stable d v w near = absurd near
 
+lists-suit : (lists : Domain) → IsTrue (has_unsized_lists lists) → SuitsMetric lists metrics.Symmetric
+lists-suit (domain.Rows columns) plain = tt
+lists-suit domain.Texts plain = tt
+lists-suit (domain.OptInts lo hi) plain = tt
+lists-suit (domain.Ints lo hi None) plain = tt
+lists-suit (domain.Cats n None) plain = tt
+lists-suit lists plain = absurd (cc)
+
 pub count_law : (lists : Domain) → Fits lists → IsTrue (has_unsized_lists lists) → IsStable (count_mapping lists)
 count_law lists input plain = record {
   input_fits = input;
   output_fits = (omega (arith, ints), omega (arith, ints), omega (arith, ints));
+  suits = both-hold (lists-suit lists plain) tt;
   lands = count_lands lists plain;
   limited = capped-le;
   stable = λ d e v w map_is has_v has_w near. let same = capped-same d e map_is in subst (λ (n : ℕ). Within metrics.Absolute n (count_value v) (count_value w)) same (count_stable d v w near);

@@ -1,5 +1,5 @@
 -- Histograms are stable.
-use Rattle.std.proofs.Common.{◌≡◌, ℕ, ◌*◌, ◌≤◌, pos, List, length, get_or, map, Option, Some, None, arith}
+use Rattle.std.proofs.Common.{◌≡◌, ℕ, ◌*◌, ◌≤◌, pos, List, length, get_or, map, Option, Some, None, ◌∙◌, sym, arith}
 use Rattle.std.specs.Prelude.{nat_eq, All}
 use Rattle.std.specs.List.{range_with_len}
 use Rattle.std.proofs.lemmas.Int.{ints}
@@ -17,6 +17,7 @@ use Rattle.dp_domain.proofs.Histograms.{l1-occurrences, range-once}
 use Rattle.dp_law.specs.Making.{list_metric}
 use Rattle.dp_law.specs.Mapping.{IsStable}
 use Rattle.dp_law.proofs.Caps.{capped-same, capped-le}
+use Rattle.dp_law.proofs.Suits.{both-hold, cats-suit}
 use Rattle.dp_aggregate.specs.Histogram.{histogram, histogram_value, histogram_most, histogram_factor, histogram_mapping}
 
 histogram_fits : (n : ℕ) (size : Option ℕ) → Fits (domain.Cats n size) → Fits (domain.IntVec n (pos 0) (pos (histogram_most size)))
@@ -49,8 +50,10 @@ histograms-apart n xs ys = l1-occurrences nat_eq nat_eq-decides (range_with_len 
 
 histogram_stable : (n : ℕ) (size : Option ℕ) (d e : ℕ) (v w : Value) → histogram_factor size * d ≡ e → Has (domain.Cats n size) v → Has (domain.Cats n size) w
     → Within (list_metric size) d v w → Within metrics.L1 e (histogram_value n v) (histogram_value n w)
-histogram_stable n None d e (value.Cats xs) (value.Cats ys) map_is has_v has_w near = let far = histograms-apart n xs ys in omega arith
-histogram_stable n (Some size) d e (value.Cats xs) (value.Cats ys) map_is has_v has_w near = let far = histograms-apart n xs ys in omega (arith, near.1)
+histogram_stable n None d e (value.Cats xs) (value.Cats ys) map_is has_v has_w near =
+    let far = histograms-apart n xs ys in (length-histogram n xs ∙ sym (length-histogram n ys), omega arith)
+histogram_stable n (Some size) d e (value.Cats xs) (value.Cats ys) map_is has_v has_w near =
+    let far = histograms-apart n xs ys in (length-histogram n xs ∙ sym (length-histogram n ys), omega (arith, near.1))
 histogram_stable n size d e (value.Cats xs) w map_is has_v has_w near = absurd has_w
 histogram_stable n size d e v w map_is has_v has_w near = absurd has_v
 
@@ -58,6 +61,7 @@ pub histogram_law : (n : ℕ) (size : Option ℕ) → Fits (domain.Cats n size) 
 histogram_law n size input = record {
   input_fits = input;
   output_fits = histogram_fits n size input;
+  suits = both-hold (cats-suit n size) tt;
   lands = histogram_lands n size;
   limited = λ d e map_is. capped-le (histogram_factor size * d) e map_is;
   stable = λ d e v w map_is. histogram_stable n size d e v w (capped-same (histogram_factor size * d) e map_is);

@@ -14,6 +14,7 @@ use Rattle.dp_domain.specs.Domains.{Fits, Has}
 use Rattle.dp_domain.specs.Metrics.{Within}
 use Rattle.dp_law.specs.Mapping.{IsStable}
 use Rattle.dp_law.proofs.Caps.{capped-same, capped-le}
+use Rattle.dp_law.proofs.Suits.{both-hold}
 use Rattle.dp_aggregate.specs.Quantise.{quantised, quantise_value, quantise_mapping, is_step}
 
 -- numbers that are at most d apart are at most d, in steps and rounded up, apart in steps
@@ -81,6 +82,7 @@ quantise_law lo hi step input good =
     record {
       input_fits = input;
       output_fits = quantise_fits lo hi step positive input;
+      suits = both-hold tt tt;
       lands = quantise_lands lo hi step positive;
       limited = λ d e map_is. capped-le (div_ceil d step) e map_is;
       stable = λ d e v w map_is has_v has_w near. quantise_stable step d e v w positive (capped-same (div_ceil d step) e map_is) near;

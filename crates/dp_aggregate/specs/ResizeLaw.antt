@@ -21,6 +21,7 @@ use Rattle.dp_domain.proofs.Equality.{int_eq-decides}
 use Rattle.dp_domain.proofs.Distance.{diff-symmetric, diff-triangle, diff-order, split, split-distance}
 use Rattle.dp_law.specs.Mapping.{IsStable}
 use Rattle.dp_law.proofs.Caps.{capped-same, capped-le}
+use Rattle.dp_law.proofs.Suits.{both-hold}
 use Rattle.dp_aggregate.specs.Exchange.{exchange}
 use Rattle.dp_aggregate.specs.Resize.{put_in, in_order, resized, resize_value, can_resize, resize_mapping}
 use Rattle.dp_aggregate.specs.RisingOrder.{put-at, in_order-permutes, in_order-same, length-in_order}
@@ -125,6 +126,7 @@ resize_law lo hi size fill input good =
     record {
       input_fits = input;
       output_fits = (input.0, (parts.0, parts.1));
+      suits = both-hold tt tt;
       lands = resize_lands lo hi size fill (fill-between lo hi fill parts.2 parts.3);
       limited = capped-le;
       stable = λ d e v w map_is. resize_stable size fill d e lo hi v w (capped-same d e map_is);

@@ -20,6 +20,7 @@ use Rattle.dp_domain.proofs.WeightedSums.{sums-apart, even-sums-apart}
 use Rattle.dp_law.specs.Making.{list_metric}
 use Rattle.dp_law.specs.Mapping.{IsStable}
 use Rattle.dp_law.proofs.Caps.{capped-same, capped-le}
+use Rattle.dp_law.proofs.Suits.{both-hold, ints-suit}
 use Rattle.dp_aggregate.specs.Sum.{IsItem, sum_value, sum_low, sum_high, sum_factor, sum_mapping}
 
 -- a number of times the smaller is at most as many times the greater
@@ -148,6 +149,7 @@ pub sum_law : (lo hi : ℤ) (size : Option ℕ) → Fits (domain.Ints lo hi size
 sum_law lo hi size input = record {
   input_fits = input;
   output_fits = sum_fits lo hi size input;
+  suits = both-hold (ints-suit lo hi size) tt;
   lands = sum_lands lo hi size;
   limited = λ d e map_is. capped-le (d * sum_factor lo hi size) e map_is;
   stable = λ d e v w map_is. sum_stable lo hi size d e v w (capped-same (d * sum_factor lo hi size) e map_is);

@@ -46,7 +46,7 @@ abbrev pub choice_of : ℕ → ℕ → ℕ → ℤ → ℤ → ℕ → ℕ → �
 choice_of n first len least most p q u floor top low high = record {
   input_domain = domain.IntVec len least most;
   input_metric = metrics.L1;
-  ratio = (p, q);
+  ratio = record { p = p; q = q };
   shape = n ∷ [];
   function = choose n first low high floor top;
   pieces = 1;

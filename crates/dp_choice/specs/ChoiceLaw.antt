@@ -154,7 +154,7 @@ private-at : (n first len : ℕ) (lo hi : ℤ) (p q u : ℕ) (floor top : ℤ) (
     Has (domain.IntVec len lo hi) v → Has (domain.IntVec len lo hi) w → Within metrics.L1 d v w →
     KeepsRatio p q k (ways (choice_of n first len lo hi p q u floor top low high) v answer) (ways (choice_of n first len lo hi p q u floor top low high) w answer)
 private-at n first len lo hi p q u floor top low high d k (value.IntVec xs) (value.IntVec ys) answer is a order b c lows highs f fits some has_v has_w near =
-    vectors-private (eqb d 0) n first len lo hi p q u floor top low high d k xs ys answer refl is a order b c lows highs f fits some has_v.0 has_w.0 near
+    vectors-private (eqb d 0) n first len lo hi p q u floor top low high d k xs ys answer refl is a order b c lows highs f fits some has_v.0 has_w.0 near.1
 private-at n first len lo hi p q u floor top low high d k (value.IntVec xs) w answer is a order b c lows highs f fits some has_v has_w near = absurd has_w
 private-at n first len lo hi p q u floor top low high d k v w answer is a order b c lows highs f fits some has_v has_w near = absurd has_v
 
@@ -171,6 +171,7 @@ pub choice_law_of : (n first len : ℕ) (lo hi : ℤ) (p q u : ℕ) (floor top :
     n * first * p + len * weight first low high (nat_abs (top -ℤ floor)) * (q + p) ≤ n * first * q → IsPrivate (choice_of n first len lo hi p q u floor top low high)
 choice_law_of n first len lo hi p q u floor top low high positive few a input ratio b c lows highs f fits = record {
   input_fits = input;
+  input_suits = tt;
   below_one = ratio;
   few_draws = omega arith;
   bounds = All-cons IsBound n [] (positive, few) (All-nil IsBound);

@@ -46,7 +46,7 @@ sum_by-add f g (x ∷ xs) =
     let ih = sum_by-add f g xs in
     omega arith
 
-sum_by-zero : {X : Type 0} (xs : List X) → sum_by (λ (x : X). 0) xs ≡ 0
+pub sum_by-zero : {X : Type 0} (xs : List X) → sum_by (λ (x : X). 0) xs ≡ 0
 sum_by-zero [] = refl
 sum_by-zero {X} (x ∷ xs) = let whole = sum_by-cons (λ (y : X). 0) x xs in let ih = sum_by-zero xs in omega arith
 

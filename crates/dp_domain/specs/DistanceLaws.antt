@@ -2,9 +2,10 @@
 use Rattle.std.specs.Prelude.{◌≡◌, ℕ, ◌+◌, ◌*◌, ◌≤◌, max, Bool, ℤ, pos, ◌-ℤ◌, nat_abs, nat_eq, List, map, length, Option, filter, filter_map, Decides, IsPermutation, All}
 use Rattle.std.specs.List.{range_with_len}
 use Rattle.dp_domain.specs.Distance.{occurrences, Split, apart, diff, l1}
-use Rattle.dp_domain.specs.Domains.{IsBetween}
-use Rattle.dp_domain.specs.Metrics.{Within}
+use Rattle.dp_domain.specs.Domains.{IsBetween, Has}
+use Rattle.dp_domain.specs.Metrics.{Within, SuitsMetric}
 use Rattle.dp_domain.specs.Sums.{int_sum_by}
+use Rattle.dp_domain.specs.declared.domains.Domain.{Domain}
 use Rattle.dp_domain.specs.declared.metrics.Metric.{Metric}
 use Rattle.dp_domain.specs.declared.values.Value.{Value}
 
@@ -78,3 +79,7 @@ HistogramLaw E = (same : E → E → Bool) → TellsApart same → (n : ℕ) (f 
 -- values within a distance are within every greater one
 abbrev pub WiderLaw : Type 0
 WiderLaw = (m : Metric) (d e : ℕ) (v w : Value) → Within m d v w → d ≤ e → Within m e v w
+
+-- a value of a domain is within 0 of itself by a metric that is used with the domain
+abbrev pub SelfLaw : Type 0
+SelfLaw = (d : Domain) (m : Metric) (v : Value) → SuitsMetric d m → Has d v → Within m 0 v v

@@ -3,3 +3,4 @@ pub mod DistanceLaws
 pub mod Domains
 pub mod Metrics
 pub mod Sums
+pub mod Users

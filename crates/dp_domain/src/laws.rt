@@ -1,6 +1,6 @@
 //! The laws of the distance of two lists in any order. Each is the contract of a function that does nothing. `E` and `F`
 //! are types of elements.
-ghost use Rattle.dp_domain.specs.DistanceLaws.{SymmetricLaw, TriangleLaw, ReorderLaw, OrderLaw, SplitLaw, LeastSplitLaw, FilterMapLaw, MapLaw, FilterLaw, LengthLaw, SumLaw, EvenSumLaw, HistogramLaw, WiderLaw};
+ghost use Rattle.dp_domain.specs.DistanceLaws.{SymmetricLaw, TriangleLaw, ReorderLaw, OrderLaw, SplitLaw, LeastSplitLaw, FilterMapLaw, MapLaw, FilterLaw, LengthLaw, SumLaw, EvenSumLaw, HistogramLaw, WiderLaw, SelfLaw};
 
 /// The distance is the same either way round, and a way round is no shorter.
 pub fn distance_law<E>()
@@ -35,9 +35,11 @@ pub fn total_law<E>()
     ensures histogram { HistogramLaw E }
 {}
 
-/// Values within a distance are within every greater one.
+/// Values within a distance are within every greater one, and a value is within 0 of itself by a metric that is used
+/// with its domain.
 pub fn wider_law()
-    ensures { WiderLaw }
+    ensures wider { WiderLaw }
+    ensures itself { SelfLaw }
 {}
 
 #[cfg(test)]
@@ -52,6 +54,7 @@ mod tests {
         ensures filter_map { FilterMapLaw E F }
         ensures sum { SumLaw E }
         ensures wider { WiderLaw }
+        ensures itself { SelfLaw }
     {
         distance_law::<E>();
         order_law::<E>();

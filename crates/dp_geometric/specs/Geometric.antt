@@ -55,7 +55,7 @@ abbrev pub geometric : Domain → ℕ → ℕ → ℕ → ℤ → ℤ → ℕ �
 geometric input p q u lo hi low high = record {
   input_domain = input;
   input_metric = numeric_metric input;
-  ratio = (p, q);
+  ratio = record { p = p; q = q };
   shape = noise_shape input lo hi low high;
   function = add_noise lo hi low high;
   pieces = 1;

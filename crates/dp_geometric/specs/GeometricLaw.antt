@@ -18,7 +18,7 @@ use Rattle.dp_count.proofs.Ratios.{ratio-more, ratio-none, ratio-powers}
 use Rattle.dp_count.proofs.Slots.{replies-ratio}
 use Rattle.dp_domain.specs.Distance.{l1}
 use Rattle.dp_domain.specs.Domains.{Fits, Has}
-use Rattle.dp_domain.specs.Metrics.{Within}
+use Rattle.dp_domain.specs.Metrics.{Within, SuitsMetric}
 use Rattle.dp_domain.specs.declared.domains.Domain.{Domain}
 use Rattle.dp_domain.specs.declared.domains.Domain.TheVariants as domain
 use Rattle.dp_domain.specs.declared.values.Value.{Value}
@@ -138,12 +138,17 @@ private-at (domain.Int least most) lo hi p q u low high d k (value.Int x) (value
     (private-number least most lo hi x y p q u low high d answer h l lows highs near)
 private-at (domain.IntVec len least most) lo hi p q u low high d k (value.IntVec xs) (value.IntVec ys) answer numeric h l lows highs same has_v has_w near =
     subst (λ (k : ℕ). KeepsRatio p q k (ways (geometric (domain.IntVec len least most) p q u lo hi low high) (value.IntVec xs) answer) (ways (geometric (domain.IntVec len least most) p q u lo hi low high) (value.IntVec ys) answer)) same
-    (private-vector least most lo hi p q u low high len d xs ys answer h l lows highs has_v.0 has_w.0 near)
+    (private-vector least most lo hi p q u low high len d xs ys answer h l lows highs has_v.0 has_w.0 near.1)
 private-at (domain.Int least most) lo hi p q u low high d k (value.Int x) w answer numeric h l lows highs same has_v has_w near = absurd has_w
 private-at (domain.Int least most) lo hi p q u low high d k v w answer numeric h l lows highs same has_v has_w near = absurd has_v
 private-at (domain.IntVec len least most) lo hi p q u low high d k (value.IntVec xs) w answer numeric h l lows highs same has_v has_w near = absurd has_w
 private-at (domain.IntVec len least most) lo hi p q u low high d k v w answer numeric h l lows highs same has_v has_w near = absurd has_v
 private-at input lo hi p q u low high d k v w answer numeric h l lows highs same has_v has_w near = absurd (cc)
+
+numeric-suits : (input : Domain) → is_numeric input ≡ true → SuitsMetric input (numeric_metric input)
+numeric-suits (domain.Int least most) numeric = tt
+numeric-suits (domain.IntVec len least most) numeric = tt
+numeric-suits input numeric = absurd (cc)
 
 -- every answer is one piece
 noise-whole : (input : Domain) (lo hi : ℤ) (low high : ℕ) (v : Value) (draws : List ℕ) → is_numeric input ≡ true → Has input v → length (add_noise lo hi low high v draws) ≡ 1
@@ -192,6 +197,7 @@ pub geometric_law : (input : Domain) (lo hi : ℤ) (p q u low high : ℕ) → Fi
     lo ≤ℤ hi → (hi -ℤ lo) ≤ℤ pos 65535 → low < high → low + high ≤ 2 ^ 62 → IsPrivate (geometric input p q u lo hi low high)
 geometric_law input lo hi p q u low high fits numeric ratio lows highs order narrow below bounded = record {
   input_fits = fits;
+  input_suits = numeric-suits input numeric;
   below_one = ratio;
   few_draws = shape-few input lo hi low high fits (narrow-width lo hi order narrow);
   bounds = shape-bounds input lo hi low high below (omega arith);

@@ -9,6 +9,7 @@ use Rattle.dp_count.proofs.DrawLists.{take-draws, drop-draws, IsDrawList-take, I
 use Rattle.dp_count.proofs.Ratios.{ratio-both}
 use Rattle.dp_domain.specs.declared.values.Value.{Value}
 use Rattle.dp_domain.specs.Domains.{Has}
+use Rattle.dp_num.specs.Limits.{Fraction}
 use Rattle.dp_domain.specs.Metrics.{Within}
 use Rattle.dp_law.specs.declared.pieces.Piece.{Piece}
 use Rattle.dp_law.specs.AnswerEquality.{piece_eq, same_answer}
@@ -44,20 +45,21 @@ added-le None k sum h = absurd (cc)
 -- each part keeps the ratio at its own loss
 both-private : (one other : Mechanism) → IsPrivate one → IsPrivate other → one.input_domain ≡ other.input_domain → one.input_metric ≡ other.input_metric → one.ratio ≡ other.ratio →
     (d sum : ℕ) (v w : Value) (answer : List Piece) → added (one.privacy_map d) (other.privacy_map d) ≡ Some sum → Has one.input_domain v → Has one.input_domain w → Within one.input_metric d v w →
-    KeepsRatio one.ratio.0 one.ratio.1 sum (ways (both one other) v answer) (ways (both one other) w answer)
+    KeepsRatio one.ratio.p one.ratio.q sum (ways (both one other) v answer) (ways (both one other) w answer)
 both-private one other first second domains metrics ratios d sum v w answer map_is has_v has_w near =
     let parts = added-parts (one.privacy_map d) (other.privacy_map d) sum map_is in
     let front = first.private d parts.0 v w (take one.pieces answer) parts.2 has_v has_w near in
     let back = second.private d parts.1 v w (drop one.pieces answer) parts.3 (subst (λ x. Has x v) domains has_v) (subst (λ x. Has x w) domains has_w) (subst (λ x. Within x d v w) metrics near) in
-    let back_at = subst (λ (r : ℕ × ℕ). KeepsRatio r.0 r.1 parts.1 (ways other v (drop one.pieces answer)) (ways other w (drop one.pieces answer))) (sym ratios) back in
+    let back_at = subst (λ (r : Fraction). KeepsRatio r.p r.q parts.1 (ways other v (drop one.pieces answer)) (ways other w (drop one.pieces answer))) (sym ratios) back in
     rw (ways-both one other first v answer has_v, ways-both one other first w answer has_w, ← parts.4)
-    (ratio-both one.ratio.0 one.ratio.1 parts.0 parts.1 _ _ _ _ front back_at)
+    (ratio-both one.ratio.p one.ratio.q parts.0 parts.1 _ _ _ _ front back_at)
 
 -- the law of two measurements as one
 pub both_law : (one other : Mechanism) → IsPrivate one → IsPrivate other → one.input_domain ≡ other.input_domain → one.input_metric ≡ other.input_metric → one.ratio ≡ other.ratio →
     length one.shape + length other.shape ≤ 2 ^ 40 → one.pieces + other.pieces ≤ 2 ^ 31 → IsPrivate (both one other)
 both_law one other first second domains metrics ratios draws pieces = record {
   input_fits = first.input_fits;
+  input_suits = first.input_suits;
   below_one = first.below_one;
   few_draws = rw (length-append one.shape other.shape) draws;
   bounds = All-append IsBound one.shape other.shape first.bounds second.bounds;

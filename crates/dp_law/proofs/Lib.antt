@@ -3,5 +3,6 @@ pub mod Equality
 pub mod JoinedReleases
 pub mod JoiningLaw
 pub mod Landing
+pub mod Suits
 pub mod Taking
 pub mod Units

@@ -6,16 +6,17 @@ use Rattle.dp_domain.specs.declared.domains.Domain.{Domain}
 use Rattle.dp_domain.specs.declared.metrics.Metric.{Metric}
 use Rattle.dp_domain.specs.declared.values.Value.{Value}
 use Rattle.dp_domain.specs.Domains.{Fits, Has}
-use Rattle.dp_domain.specs.Metrics.{Within}
+use Rattle.dp_num.specs.Limits.{Fraction}
+use Rattle.dp_domain.specs.Metrics.{Within, SuitsMetric}
 use Rattle.dp_law.specs.declared.pieces.Piece.{Piece}
 use Rattle.dp_law.specs.AnswerEquality.{same_answer}
 
--- the ratio is that of .0 to .1; the function goes from a value and a draw list of the shape to an answer; the privacy
--- map gives None where the loss is greater than 2 ^ 32
+-- the function goes from a value and a draw list of the shape to an answer; the privacy map gives None where the loss
+-- is greater than 2 ^ 32
 pub record Mechanism : Type 0 where
   pub input_domain : Domain
   pub input_metric : Metric
-  pub ratio : ℕ × ℕ
+  pub ratio : Fraction
   pub shape : List ℕ
   pub function : Value → List ℕ → List Piece
   pub pieces : ℕ
@@ -33,15 +34,16 @@ IsBound bound = (1 ≤ bound) × (bound ≤ 2 ^ 62)
 abbrev pub IsBelowOne : ℕ → ℕ → Type 0
 IsBelowOne p q = (1 ≤ p) × (p < q) × (q ≤ 65536)
 
--- the domain fits, shape and answers keep their limits, and for values within d the numbers of draw lists of every
+-- the domain fits, the metric is used with it, shape and answers keep their limits, and for values within d the numbers of draw lists of every
 -- answer keep the ratio at the privacy map of d
 pub record IsPrivate (m : Mechanism) : Type 0 where
   pub input_fits : Fits m.input_domain
-  pub below_one : IsBelowOne m.ratio.0 m.ratio.1
+  pub input_suits : SuitsMetric m.input_domain m.input_metric
+  pub below_one : IsBelowOne m.ratio.p m.ratio.q
   pub few_draws : length m.shape ≤ 2 ^ 40
   pub bounds : All IsBound m.shape
   pub few_pieces : m.pieces ≤ 2 ^ 31
   pub whole : (v : Value) (draws : List ℕ) → Has m.input_domain v → IsDrawList m.shape draws → length (m.function v draws) ≡ m.pieces
   pub limited : (d k : ℕ) → m.privacy_map d ≡ Some k → k ≤ 2 ^ 32
   pub private : (d k : ℕ) (v w : Value) (answer : List Piece) → m.privacy_map d ≡ Some k → Has m.input_domain v → Has m.input_domain w
-      → Within m.input_metric d v w → KeepsRatio m.ratio.0 m.ratio.1 k (ways m v answer) (ways m w answer)
+      → Within m.input_metric d v w → KeepsRatio m.ratio.p m.ratio.q k (ways m v answer) (ways m w answer)

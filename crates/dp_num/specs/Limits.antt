@@ -5,6 +5,11 @@ use Rattle.std.specs.Prelude.{ℕ, ◌+◌, ◌^◌, ◌==◌, ◌&&◌, Bool, O
 abbrev pub capped : ℕ → Option ℕ
 capped n = if nat_le n (2 ^ 32) then Some n else None
 
+-- the two numbers of a ratio p / q
+pub record Fraction : Type 0 where
+  pub p : ℕ
+  pub q : ℕ
+
 -- p and q are the numbers of a ratio below 1
 abbrev pub is_ratio : ℕ → ℕ → Bool
 is_ratio p q = nat_le 1 p && nat_lt p q && nat_le q 65536

@@ -40,7 +40,7 @@ abbrev pub response : ℕ → ℕ → ℕ → ℕ → ℕ → ℕ → Mechanism
 response n p q u low high = record {
   input_domain = domain.Cat n;
   input_metric = metrics.Discrete;
-  ratio = (p, q);
+  ratio = record { p = p; q = q };
   shape = draw_bound n low high ∷ [];
   function = respond low high;
   pieces = 1;

@@ -157,6 +157,7 @@ response-whole n low high v draws has = absurd has
 pub response_law : (n p q u low high : ℕ) → Fits (domain.Cat n) → IsBelowOne p q → 1 ≤ low → low < high → low ≡ p ^ u → high ≡ q ^ u → draw_bound n low high ≤ 2 ^ 62 → IsPrivate (response n p q u low high)
 response_law n p q u low high input ratio positive below lows highs bounded = record {
   input_fits = input;
+  input_suits = tt;
   below_one = ratio;
   few_draws = omega arith;
   bounds = All-cons IsBound (draw_bound n low high) [] (omega arith, bounded) (All-nil IsBound);

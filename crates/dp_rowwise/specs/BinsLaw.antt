@@ -15,6 +15,7 @@ use Rattle.dp_domain.proofs.Equality.{nat_eq-decides, int_eq-decides}
 use Rattle.dp_law.specs.Making.{list_metric}
 use Rattle.dp_law.specs.Mapping.{IsStable}
 use Rattle.dp_law.proofs.Caps.{capped-same, capped-le}
+use Rattle.dp_law.proofs.Suits.{both-hold, ints-suit, cats-suit}
 use Rattle.std.specs.Prelude.{int_le}
 use Rattle.dp_rowwise.specs.Bins.{bin, bins_value, bins_mapping}
 
@@ -36,6 +37,7 @@ pub bins_law : (edges : List ℤ) (lo hi : ℤ) (size : Option ℕ) → Fits (do
 bins_law edges lo hi size input output = record {
   input_fits = input;
   output_fits = output;
+  suits = both-hold (ints-suit lo hi size) (cats-suit (length edges + 1) size);
   lands = bins_lands edges lo hi size;
   limited = capped-le;
   stable = λ d e v w map_is. bins_stable edges lo hi size d e v w (capped-same d e map_is);

@@ -15,6 +15,7 @@ use Rattle.dp_domain.proofs.Distance.{diff-map}
 use Rattle.dp_domain.proofs.Equality.{text_eq-decides, opt_int_eq-decides}
 use Rattle.dp_law.specs.Mapping.{IsStable}
 use Rattle.dp_law.proofs.Caps.{capped-same, capped-le}
+use Rattle.dp_law.proofs.Suits.{both-hold}
 use Rattle.std.specs.Prelude.{nat_le, ◌==◌, option_map}
 use Rattle.std.proofs.lemmas.Bool.Decides.{nat_tests}
 use Rattle.dp_count.specs.Digits.{decimal}
@@ -62,6 +63,7 @@ pub cast_law : IsStable cast_mapping
 cast_law = record {
   input_fits = tt;
   output_fits = (omega (arith, ints), omega (arith, ints), omega (arith, ints));
+  suits = both-hold tt tt;
   lands = cast_lands;
   limited = capped-le;
   stable = λ d e v w map_is. cast_stable d e v w (capped-same d e map_is);

@@ -15,6 +15,7 @@ use Rattle.dp_domain.proofs.Distance.{diff-map}
 use Rattle.dp_domain.proofs.Equality.{nat_eq-decides, text_eq-decides}
 use Rattle.dp_law.specs.Mapping.{IsStable}
 use Rattle.dp_law.proofs.Caps.{capped-same, capped-le}
+use Rattle.dp_law.proofs.Suits.{both-hold}
 use Rattle.dp_rowwise.specs.Categories.{place_in, categories_value, categories_mapping}
 
 place_in-le : (texts : List (List ℕ)) (text : List ℕ) → place_in texts text ≤ length texts
@@ -36,6 +37,7 @@ pub categories_law : (texts : List (List ℕ)) → Fits (domain.Cats (length tex
 categories_law texts fits = record {
   input_fits = tt;
   output_fits = fits;
+  suits = both-hold tt tt;
   lands = categories_lands texts;
   limited = capped-le;
   stable = λ d e v w map_is. categories_stable texts d e v w (capped-same d e map_is);

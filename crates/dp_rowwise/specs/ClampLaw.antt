@@ -15,6 +15,7 @@ use Rattle.dp_domain.specs.Metrics.{Within}
 use Rattle.dp_law.specs.Making.{list_metric}
 use Rattle.dp_law.specs.Mapping.{IsStable}
 use Rattle.dp_law.proofs.Caps.{capped-same, capped-le}
+use Rattle.dp_law.proofs.Suits.{both-hold, ints-suit}
 use Rattle.dp_rowwise.specs.Clamp.{clamp_mapping, clamped, clamp_value}
 
 clamped-between : (lo hi z : ℤ) → lo ≤ℤ hi → IsBetween lo hi (clamped lo hi z)
@@ -39,6 +40,7 @@ pub clamp_law : (lo hi from_lo from_hi : ℤ) (size : Option ℕ) → Fits (doma
 clamp_law lo hi from_lo from_hi size input output = record {
   input_fits = input;
   output_fits = output;
+  suits = both-hold (ints-suit from_lo from_hi size) (ints-suit lo hi size);
   lands = clamp_lands lo hi from_lo from_hi size output.0.1;
   limited = capped-le;
   stable = λ d e v w map_is has_v has_w near. clamp_stable_at lo hi from_lo from_hi size d e v w (capped-same d e map_is) has_v has_w near;

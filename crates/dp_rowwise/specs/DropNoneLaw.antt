@@ -14,6 +14,7 @@ use Rattle.dp_domain.proofs.Distance.{diff-filter_map}
 use Rattle.dp_domain.proofs.Equality.{int_eq-decides, opt_int_eq-decides}
 use Rattle.dp_law.specs.Mapping.{IsStable}
 use Rattle.dp_law.proofs.Caps.{capped-same, capped-le}
+use Rattle.dp_law.proofs.Suits.{both-hold}
 use Rattle.std.specs.List.{cons_option}
 use Rattle.dp_rowwise.specs.DropNone.{drop_none_value, drop_none_mapping}
 
@@ -48,6 +49,7 @@ pub drop_none_law : (lo hi : ℤ) → Fits (domain.OptInts lo hi) → IsStable (
 drop_none_law lo hi fits = record {
   input_fits = fits;
   output_fits = (fits, tt);
+  suits = both-hold tt tt;
   lands = drop_none_lands lo hi;
   limited = capped-le;
   stable = λ d e v w map_is. drop_none_stable lo hi d e v w (capped-same d e map_is);

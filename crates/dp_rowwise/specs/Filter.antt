@@ -1,6 +1,7 @@
 -- Filtering records by the text in a column.
-use Rattle.std.specs.Prelude.{ℕ, List, [], Result, Err, filter, nat_lt, slice_index_or}
+use Rattle.std.specs.Prelude.{ℕ, List, Result, Err, filter, nat_lt}
 use Rattle.dp_domain.specs.Distance.{text_eq}
+use Rattle.dp_domain.specs.Users.{cell}
 use Rattle.dp_num.specs.Limits.{capped}
 use Rattle.dp_domain.specs.declared.domains.Domain.{Domain}
 use Rattle.dp_domain.specs.declared.domains.Domain.TheVariants as domain
@@ -12,10 +13,6 @@ use Rattle.dp_law.specs.declared.refusals.Refused.{Refused}
 use Rattle.dp_law.specs.declared.refusals.Refused.TheVariants as refused
 use Rattle.dp_law.specs.Mapping.{Mapping}
 use Rattle.dp_law.specs.Making.{tested, is_symmetric}
-
--- the cell in a column, from 0
-abbrev pub cell : ℕ → List (List ℕ) → List ℕ
-cell column cells = slice_index_or cells column []
 
 -- the records whose cell in the column is the text, in order
 abbrev pub filter_value : ℕ → List ℕ → Value → Value

@@ -13,7 +13,9 @@ use Rattle.dp_domain.proofs.Distance.{diff-filter}
 use Rattle.dp_domain.proofs.Equality.{record_eq-decides}
 use Rattle.dp_law.specs.Mapping.{IsStable}
 use Rattle.dp_law.proofs.Caps.{capped-same, capped-le}
-use Rattle.dp_rowwise.specs.Filter.{cell, filter_value, filter_mapping}
+use Rattle.dp_law.proofs.Suits.{both-hold}
+use Rattle.dp_domain.specs.Users.{cell}
+use Rattle.dp_rowwise.specs.Filter.{filter_value, filter_mapping}
 
 filter_lands : (column : ℕ) (text : List ℕ) (columns : ℕ) (v : Value) → Has (domain.Rows columns) v → Has (domain.Rows columns) (filter_value column text v)
 filter_lands column text columns (value.Rows rows) has =
@@ -32,6 +34,7 @@ pub filter_law : (column : ℕ) (text : List ℕ) (columns : ℕ) → Fits (doma
 filter_law column text columns fits = record {
   input_fits = fits;
   output_fits = fits;
+  suits = both-hold tt tt;
   lands = filter_lands column text columns;
   limited = capped-le;
   stable = λ d e v w map_is. filter_stable column text columns d e v w (capped-same d e map_is);

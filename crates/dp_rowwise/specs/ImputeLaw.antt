@@ -15,6 +15,7 @@ use Rattle.dp_domain.proofs.Distance.{diff-map}
 use Rattle.dp_domain.proofs.Equality.{int_eq-decides, opt_int_eq-decides}
 use Rattle.dp_law.specs.Mapping.{IsStable}
 use Rattle.dp_law.proofs.Caps.{capped-same, capped-le}
+use Rattle.dp_law.proofs.Suits.{both-hold}
 use Rattle.dp_rowwise.specs.Impute.{impute_value, impute_mapping}
 
 imputed-between : (number lo hi : ℤ) (x : Option ℤ) → IsBetween lo hi number → IfSome x (IsBetween lo hi) → IsBetween lo hi (unwrap_or x number)
@@ -37,6 +38,7 @@ pub impute_law : (number lo hi : ℤ) → Fits (domain.OptInts lo hi) → IsBetw
 impute_law number lo hi fits between = record {
   input_fits = fits;
   output_fits = (fits, tt);
+  suits = both-hold tt tt;
   lands = impute_lands number lo hi between;
   limited = capped-le;
   stable = λ d e v w map_is. impute_stable number lo hi d e v w (capped-same d e map_is);

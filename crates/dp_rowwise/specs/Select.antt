@@ -11,7 +11,7 @@ use Rattle.dp_law.specs.declared.refusals.Refused.{Refused}
 use Rattle.dp_law.specs.declared.refusals.Refused.TheVariants as refused
 use Rattle.dp_law.specs.Mapping.{Mapping}
 use Rattle.dp_law.specs.Making.{tested, is_symmetric}
-use Rattle.dp_rowwise.specs.Filter.{cell}
+use Rattle.dp_domain.specs.Users.{cell}
 
 -- the cell in the column of each record
 abbrev pub select_value : ℕ → Value → Value

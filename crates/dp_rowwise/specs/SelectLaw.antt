@@ -12,7 +12,8 @@ use Rattle.dp_domain.proofs.Distance.{diff-map}
 use Rattle.dp_domain.proofs.Equality.{text_eq-decides, record_eq-decides}
 use Rattle.dp_law.specs.Mapping.{IsStable}
 use Rattle.dp_law.proofs.Caps.{capped-same, capped-le}
-use Rattle.dp_rowwise.specs.Filter.{cell}
+use Rattle.dp_law.proofs.Suits.{both-hold}
+use Rattle.dp_domain.specs.Users.{cell}
 use Rattle.dp_rowwise.specs.Select.{select_value, select_mapping}
 
 select_lands : (column columns : ℕ) (v : Value) → Has (domain.Rows columns) v → Has domain.Texts (select_value column v)
@@ -30,6 +31,7 @@ pub select_law : (column columns : ℕ) → Fits (domain.Rows columns) → IsSta
 select_law column columns fits = record {
   input_fits = fits;
   output_fits = tt;
+  suits = both-hold tt tt;
   lands = select_lands column columns;
   limited = capped-le;
   stable = λ d e v w map_is. select_stable column columns d e v w (capped-same d e map_is);

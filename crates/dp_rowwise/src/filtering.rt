@@ -4,7 +4,8 @@ ghost use Rattle.dp_domain.specs.Domains.{Fits};
 ghost use Rattle.dp_domain.specs.declared.domains.Domain.TheVariants as domain;
 ghost use Rattle.dp_domain.proofs.Limits.{Fits-prop};
 ghost use Rattle.dp_law.specs.Making.{Makes};
-ghost use Rattle.dp_rowwise.specs.Filter.{cell, filter_from};
+ghost use Rattle.dp_domain.specs.Users.{cell};
+ghost use Rattle.dp_rowwise.specs.Filter.{filter_from};
 
 use crate::copying::copy_record;
 use dp_count::NoMemory;

@@ -3,7 +3,7 @@ ghost use Rattle.dp_domain.specs.Domains.{Fits};
 ghost use Rattle.dp_domain.specs.declared.domains.Domain.TheVariants as domain;
 ghost use Rattle.dp_domain.proofs.Limits.{Fits-prop};
 ghost use Rattle.dp_law.specs.Making.{Makes};
-ghost use Rattle.dp_rowwise.specs.Filter.{cell};
+ghost use Rattle.dp_domain.specs.Users.{cell};
 ghost use Rattle.dp_rowwise.specs.Select.{select_from};
 
 use crate::copying::copy_text;

@@ -1,7 +1,7 @@
 use Rattle.std.proofs.Common.{◌≡◌, take}
 use Rattle.std.specs.Prelude.{filter}
 use Rattle.dp_domain.specs.Distance.{text_eq}
-use Rattle.dp_rowwise.specs.Filter.{cell}
+use Rattle.dp_domain.specs.Users.{cell}
 use Rattle.dp_rowwise.proofs.filtering.matching.Given as goal
 
 abbrev pub invariant-loop-cells : goal.invariant-loop-cells

@@ -1,5 +1,5 @@
 use Rattle.std.proofs.Common.{◌≡◌, map, take}
-use Rattle.dp_rowwise.specs.Filter.{cell}
+use Rattle.dp_domain.specs.Users.{cell}
 use Rattle.dp_rowwise.proofs.selecting.cells_of.Given as goal
 
 abbrev pub invariant-loop-cells : goal.invariant-loop-cells

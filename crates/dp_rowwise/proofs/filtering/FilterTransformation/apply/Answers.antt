@@ -3,7 +3,8 @@ use Rattle.std.specs.Prelude.{filter}
 use Rattle.dp_domain.specs.declared.values.Value.TheVariants as value
 use Rattle.dp_domain.specs.Distance.{text_eq}
 use Rattle.dp_law.proofs.Landing.{lands_at}
-use Rattle.dp_rowwise.specs.Filter.{cell, filter_mapping, filter_value}
+use Rattle.dp_domain.specs.Users.{cell}
+use Rattle.dp_rowwise.specs.Filter.{filter_mapping, filter_value}
 use Rattle.dp_rowwise.specs.FilterLaw.{filter_law}
 use Rattle.dp_rowwise.proofs.filtering.FilterTransformation.apply.Goals as goal
 
