@@ -15,7 +15,7 @@ counted still run low draws = if still then run + leading_run low draws else run
 pub record Forward (step : List ℕ → ℕ → Turn) (start state : List ℕ) (before now turns turn low high run : ℕ) (still : Bool) : Type 0 where
   pub runs : option_map (counted still run low) (take_draws step state (replicate (turns - turn) high)).draws ≡ option_map (leading_run low) (take_draws step start (replicate turns high)).draws
   pub last : (take_draws step state (replicate (turns - turn) high)).last ≡ (take_draws step start (replicate turns high)).last
-  pub later : before ≤ now
+  pub kept : now ≡ before
   pub few : run ≤ turn
 
 counted-hit : (test : Bool) (run low : ℕ) (draws : List ℕ) → run + (if test then 1 + leading_run low draws else 0) ≡ counted test (run + bool_byte test) low draws
@@ -44,17 +44,17 @@ taken-more step state next turns turn high draw left turned =
     let e : turns - turn ≡ suc (turns - (turn + 1)) = omega arith in
     ap (λ n. take_draws step state (replicate n high)) e ∙ take_draws-some step state high (replicate (turns - (turn + 1)) high) draw next turned
 
-pub forward-more : (step : List ℕ → ℕ → Turn) (start state next : List ℕ) (before now after turns turn low high run draw : ℕ) (still : Bool) → Forward step start state before now turns turn low high run still → turn < turns → step state high ≡ record { draw = Some draw; next = next } → now ≤ after →
+pub forward-more : (step : List ℕ → ℕ → Turn) (start state next : List ℕ) (before now after turns turn low high run draw : ℕ) (still : Bool) → Forward step start state before now turns turn low high run still → turn < turns → step state high ≡ record { draw = Some draw; next = next } → after ≡ now →
     Forward step start next before after turns (turn + 1) low high (run + bool_byte (still && ltb draw low)) (still && ltb draw low)
-forward-more step start state next before now after turns turn low high run draw still f left turned later =
+forward-more step start state next before now after turns turn low high run draw still f left turned kept =
     let e = taken-more step state next turns turn high draw left turned in
     let b = byte-few (still && ltb draw low) in
-    let given_later = f.later in
+    let given_kept = f.kept in
     let given_few = f.few in
     record {
       runs = sym (runs-more still run low draw (take_draws step next (replicate (turns - (turn + 1)) high)).draws) ∙ sym (ap (λ t. option_map (counted still run low) t.draws) e) ∙ f.runs;
       last = sym (ap (λ t. t.last) e) ∙ f.last;
-      later = omega arith;
+      kept = omega arith;
       few = omega arith;
     }
 

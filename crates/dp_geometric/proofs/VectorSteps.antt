@@ -19,7 +19,7 @@ cells_taken step state n lo hi low high = take_draws step state (cells_shape n l
 pub record VectorForward (step : List ℕ → ℕ → Turn) (start state : List ℕ) (before now : ℕ) (lo hi : ℤ) (low high : ℕ) (whole rest done : List ℤ) : Type 0 where
   pub answers : option_map (λ draws. done ++ cells_out lo hi low high rest draws) (cells_taken step state (length rest) lo hi low high).draws ≡ option_map (cells_out lo hi low high whole) (cells_taken step start (length whole) lo hi low high).draws
   pub last : (cells_taken step state (length rest) lo hi low high).last ≡ (cells_taken step start (length whole) lo hi low high).last
-  pub later : before ≤ now
+  pub kept : now ≡ before
 
 cells_out-cut : (lo hi : ℤ) (low high : ℕ) (z : ℤ) (zs : List ℤ) (d e : List ℕ) → length d ≡ length (cell_shape lo hi low high) →
     cells_out lo hi low high (z ∷ zs) (d ++ e) ≡ cell_out lo hi low high z d ∷ cells_out lo hi low high zs e
@@ -63,26 +63,26 @@ taken-fails step state n lo hi low high failed =
 
 more-by : (first : Option (List ℕ)) (step : List ℕ → ℕ → Turn) (start state next : List ℕ) (before now after : ℕ) (lo hi : ℤ) (low high : ℕ) (whole rest done : List ℤ) (z x : ℤ) →
     (take_draws step state (cell_shape lo hi low high)).draws ≡ first → VectorForward step start state before now lo hi low high whole (z ∷ rest) done →
-    Some x ≡ option_map (cell_out lo hi low high z) first → next ≡ (take_draws step state (cell_shape lo hi low high)).last → now ≤ after →
+    Some x ≡ option_map (cell_out lo hi low high z) first → next ≡ (take_draws step state (cell_shape lo hi low high)).last → after ≡ now →
     VectorForward step start next before after lo hi low high whole rest (done ++ x ∷ [])
-more-by None step start state next before now after lo hi low high whole rest done z x taken f answered left later = absurd (cc)
-more-by (Some d) step start state next before now after lo hi low high whole rest done z x taken f answered left later =
+more-by None step start state next before now after lo hi low high whole rest done z x taken f answered left kept = absurd (cc)
+more-by (Some d) step start state next before now after lo hi low high whole rest done z x taken f answered left kept =
     let is : x ≡ cell_out lo hi low high z d = cc in
     let e = taken-more step state d (length rest) lo hi low high taken in
-    let given_later = f.later in
+    let given_kept = f.kept in
     record {
       answers = rw left (sym (one-more lo hi low high z x rest done d _ (take_draws-length step state (cell_shape lo hi low high) d taken) is)
           ∙ sym (ap (λ (t : Taken). option_map (λ draws. done ++ cells_out lo hi low high (z ∷ rest) draws) t.draws) e) ∙ f.answers);
       last = rw left (sym (ap (λ (t : Taken). t.last) e) ∙ f.last);
-      later = omega arith;
+      kept = omega arith;
     }
 
 -- one cell more
 pub vector-more : (step : List ℕ → ℕ → Turn) (start state next : List ℕ) (before now after : ℕ) (lo hi : ℤ) (low high : ℕ) (whole rest done : List ℤ) (z x : ℤ) → VectorForward step start state before now lo hi low high whole (z ∷ rest) done →
-    Some x ≡ option_map (cell_out lo hi low high z) (take_draws step state (cell_shape lo hi low high)).draws → next ≡ (take_draws step state (cell_shape lo hi low high)).last → now ≤ after →
+    Some x ≡ option_map (cell_out lo hi low high z) (take_draws step state (cell_shape lo hi low high)).draws → next ≡ (take_draws step state (cell_shape lo hi low high)).last → after ≡ now →
     VectorForward step start next before after lo hi low high whole rest (done ++ x ∷ [])
-vector-more step start state next before now after lo hi low high whole rest done z x f answered left later =
-    more-by (take_draws step state (cell_shape lo hi low high)).draws step start state next before now after lo hi low high whole rest done z x refl f answered left later
+vector-more step start state next before now after lo hi low high whole rest done z x f answered left kept =
+    more-by (take_draws step state (cell_shape lo hi low high)).draws step start state next before now after lo hi low high whole rest done z x refl f answered left kept
 
 failed-draws : {R : Type 0} (out : List ℕ → R) (draws : Option (List ℕ)) → None ≡ option_map out draws → draws ≡ None
 failed-draws out None h = refl
@@ -113,13 +113,13 @@ next-number : (xs : List ℤ) (i : ℕ) → i < length xs → drop i xs ≡ get_
 next-number xs i h = rw add-one (drop-cons xs i (pos 0) h)
 
 pub place-more : (step : List ℕ → ℕ → Turn) (start state next : List ℕ) (before now after : ℕ) (lo hi : ℤ) (low high : ℕ) (xs done : List ℤ) (i : ℕ) (x : ℤ) → VectorForward step start state before now lo hi low high xs (drop i xs) done →
-    i < length xs → SFits w64 (get_or xs i (pos 0)) → Some x ≡ option_map (cell_out lo hi low high (to_z w64 (of_z w64 (get_or xs i (pos 0))))) (take_draws step state (cell_shape lo hi low high)).draws → next ≡ (take_draws step state (cell_shape lo hi low high)).last → now ≤ after →
+    i < length xs → SFits w64 (get_or xs i (pos 0)) → Some x ≡ option_map (cell_out lo hi low high (to_z w64 (of_z w64 (get_or xs i (pos 0))))) (take_draws step state (cell_shape lo hi low high)).draws → next ≡ (take_draws step state (cell_shape lo hi low high)).last → after ≡ now →
     VectorForward step start next before after lo hi low high xs (drop (i + 1) xs) (done ++ x ∷ [])
-place-more step start state next before now after lo hi low high xs done i x f h fits answered left later =
+place-more step start state next before now after lo hi low high xs done i x f h fits answered left kept =
     let z = get_or xs i (pos 0) in
     vector-more step start state next before now after lo hi low high xs (drop (i + 1) xs) done z x
     (subst (λ (rest : List ℤ). VectorForward step start state before now lo hi low high xs rest done) (next-number xs i h) f)
-    (subst (λ (v : ℤ). Some x ≡ option_map (cell_out lo hi low high v) (take_draws step state (cell_shape lo hi low high)).draws) (to_z-of_z w64 z fits) answered) left later
+    (subst (λ (v : ℤ). Some x ≡ option_map (cell_out lo hi low high v) (take_draws step state (cell_shape lo hi low high)).draws) (to_z-of_z w64 z fits) answered) left kept
 
 pub place-fails : (step : List ℕ → ℕ → Turn) (start state next : List ℕ) (before now : ℕ) (lo hi : ℤ) (low high : ℕ) (xs done : List ℤ) (i : ℕ) → VectorForward step start state before now lo hi low high xs (drop i xs) done →
     i < length xs → SFits w64 (get_or xs i (pos 0)) → None ≡ option_map (cell_out lo hi low high (to_z w64 (of_z w64 (get_or xs i (pos 0))))) (take_draws step state (cell_shape lo hi low high)).draws → next ≡ (take_draws step state (cell_shape lo hi low high)).last →

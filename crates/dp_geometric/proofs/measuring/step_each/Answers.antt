@@ -27,7 +27,7 @@ loop-number-preserved g c =
     let same = to_z-of_z w64 x fits_answer in
     let raw = rw c.unwrap.ensures at c.push.ensures.items in
     let items : c.push.new.self.items ≡ n.given.items ++ x ∷ [] = raw ∙ ap (λ y. n.given.items ++ y ∷ []) same in
-    let more = place-more _ _ _ _ _ _ _ _ _ _ _ _ _ _ x n.invariant.0 c.loop-number-test.true fits c.in_ok-answer.ensures.answer c.in_ok-answer.ensures.last c.in_ok-answer.ensures.cause.later in
+    let more = place-more _ _ _ _ _ _ _ _ _ _ _ _ _ _ x n.invariant.0 c.loop-number-test.true fits c.in_ok-answer.ensures.answer c.in_ok-answer.ensures.last c.in_ok-answer.ensures.cause.kept in
     let longer = ap length items ∙ length-append n.given.items (x ∷ []) in
     (rw items more, omega (arith, n.invariant.1), omega (arith, n.invariant.2, c.push.ensures.capacity))
 

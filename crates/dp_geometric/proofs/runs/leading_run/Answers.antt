@@ -13,7 +13,7 @@ returns-in_err-still-clause-last g c =
 
 pub loop-turn-preserved : goal.loop-turn-preserved
 loop-turn-preserved g c =
-    rw c.from.ensures (forward-more _ _ _ _ _ _ _ _ _ _ _ _ _ _ c.loop-turn.invariant c.loop-turn-test.true c.in_ok-still.ensures.step c.below.ensures.cause.later)
+    rw c.from.ensures (forward-more _ _ _ _ _ _ _ _ _ _ _ _ _ _ c.loop-turn.invariant c.loop-turn-test.true c.in_ok-still.ensures.step c.in_ok-still.ensures.cause.kept)
 
 pub returns-clause-run : goal.returns-clause-run
 returns-clause-run g c = (forward-ends _ _ _ _ _ _ _ _ _ _ _ c.loop-turn.invariant c.loop-turn-test.false).0
