@@ -1,6 +1,7 @@
 pub mod Distance
 pub mod Equality
 pub mod Examples
+pub mod Groups
 pub mod Growth
 pub mod Histograms
 pub mod Limits

@@ -4,7 +4,7 @@ ghost use Rattle.dp_domain.specs.Domains.{Fits, Has, FitsSize, FewCategories, Is
 use crate::lists::{Cats, Ints, OptInts, Rows, Texts};
 use crate::values::Value;
 
-/// A set of values. Bounds are included.
+/// A set of values. Bounds are included. A list without a size has at most 2^30 elements.
 #[derive(Clone, Copy, Debug, PartialEq, Eq)]
 pub enum Domain {
     /// Lists of records of so many cells, from 1 to 64.
@@ -54,7 +54,8 @@ impl Domain {
         }
     }
 
-    /// Whether the value is of the domain's kind, and each of its elements, lengths and sizes is as the domain says.
+    /// Whether the value is of the domain's kind, and each of its elements, lengths and sizes is as the domain says: a
+    /// list has its size where one is given, and else at most 2^30 elements.
     pub fn has(&self, v: &Value) -> bool
         requires { Fits self.now }
         ensures { IsTrue result ↔ Has self.now v.now }

@@ -1,6 +1,7 @@
-//! The laws of the distance of two lists in any order. Each is the contract of a function that does nothing. `E` and `F`
-//! are types of elements.
+//! The laws of the distance of two lists in any order, and of groups of their elements by a key. Each is the contract of
+//! a function that does nothing. `E` and `F` are types of elements, `K` is a type of keys.
 ghost use Rattle.dp_domain.specs.DistanceLaws.{SymmetricLaw, TriangleLaw, ReorderLaw, OrderLaw, SplitLaw, LeastSplitLaw, FilterMapLaw, MapLaw, FilterLaw, LengthLaw, SumLaw, EvenSumLaw, HistogramLaw, WiderLaw, SelfLaw};
+ghost use Rattle.dp_domain.specs.GroupLaws.{PartsSymmetricLaw, PartsReorderLaw, PartsOrderLaw, MostPartsLaw, CoverPartsLaw, PartSumLaw, CoverSumLaw, PartsFilterLaw, FewLaw};
 
 /// The distance is the same either way round, and a way round is no shorter.
 pub fn distance_law<E>()
@@ -42,6 +43,30 @@ pub fn wider_law()
     ensures itself { SelfLaw }
 {}
 
+/// The number of groups that differ, by a key, is the same either way round and in any order, and 0 exactly for lists that
+/// are the same in another order.
+pub fn group_law<E, K>()
+    ensures symmetric { PartsSymmetricLaw E K }
+    ensures reorder { PartsReorderLaw E K }
+    ensures none { PartsOrderLaw E K }
+{}
+
+/// Different keys give no more groups that differ, and as many where they cover both lists; their groups are together no
+/// further apart than the lists, and as far where they cover both.
+pub fn key_law<E, K>()
+    ensures most { MostPartsLaw E K }
+    ensures cover { CoverPartsLaw E K }
+    ensures sum { PartSumLaw E K }
+    ensures cover_sum { CoverSumLaw E K }
+{}
+
+/// A filter raises no number of groups that differ, and lists with few elements a group are no further apart than the
+/// groups that differ allow.
+pub fn few_law<E, K>()
+    ensures filter { PartsFilterLaw E K }
+    ensures few { FewLaw E K }
+{}
+
 #[cfg(test)]
 mod tests {
     use super::*;
@@ -55,6 +80,9 @@ mod tests {
         ensures sum { SumLaw E }
         ensures wider { WiderLaw }
         ensures itself { SelfLaw }
+        ensures groups { PartsSymmetricLaw E F }
+        ensures keys { PartSumLaw E F }
+        ensures few { FewLaw E F }
     {
         distance_law::<E>();
         order_law::<E>();
@@ -62,6 +90,9 @@ mod tests {
         map_law::<E, F>();
         total_law::<E>();
         wider_law();
+        group_law::<E, F>();
+        key_law::<E, F>();
+        few_law::<E, F>();
     }
 
     #[test]
