@@ -5,30 +5,30 @@ ghost use Rattle.dp_domain.specs.declared.domains.Domain.TheVariants as domain;
 ghost use Rattle.dp_domain.proofs.Limits.{Fits-prop};
 ghost use Rattle.dp_law.specs.Making.{Makes};
 ghost use Rattle.dp_domain.specs.Users.{cell};
-ghost use Rattle.dp_rowwise.specs.Filter.{filter_from};
+ghost use Rattle.dp_rowwise.specs.Filter.{filter_from, compares_rows};
 
-use crate::copying::copy_record;
 use dp_count::NoMemory;
-use dp_domain::{Domain, Metric, Record, Rows, Value};
+use dp_domain::{Domain, Duplicate, Metric, Record, Rows, Value};
 use dp_law::{Refused, Transformation};
 use dp_num::Past;
 use std::alloc::Global;
 
-/// Keeps the records whose cell in a column is a text, byte for byte, in order. It takes `Rows` by `Symmetric` and gives
-/// the same. The work is linear in the cells.
+/// Keeps the records whose cell in a column is a text, byte for byte, in order. It takes `Rows` by `Symmetric`, or by
+/// `Users` of a column of the domain, and gives the same. The work is linear in the cells.
 #[derive(Debug, Drop)]
 pub struct Filter {
     column: u32,
     text: Vec<u8>,
     columns: u32,
+    metric: Metric,
     ghost fits: { Fits (domain.Rows columns) } by { Fits-prop (domain.Rows columns) },
     ghost within: { column < columns },
 }
 
 impl Filter {
     /// The filter of the column, from 0, by the text. `Kind` comes exactly where the domain is not `Rows`, `Metric`
-    /// exactly where it is and the metric is not `Symmetric`, and `Bound` exactly where neither comes and the domain has
-    /// no such column.
+    /// exactly where it is and the metric is neither `Symmetric` nor `Users` of a column of the domain, and `Bound`
+    /// exactly where neither comes and the domain has no such column.
     pub fn new(
         domain: Domain,
         metric: Metric,
@@ -41,7 +41,7 @@ impl Filter {
         let Domain::Rows { columns } = domain else {
             return Err(Refused::Kind);
         };
-        if metric != Metric::Symmetric {
+        if !compares_rows(columns, metric) {
             return Err(Refused::Metric);
         }
         if column >= columns {
@@ -51,6 +51,7 @@ impl Filter {
             column,
             text,
             columns,
+            metric,
         })
     }
 }
@@ -59,7 +60,7 @@ impl Transformation for Filter {
     ghost use Rattle.dp_rowwise.specs.Filter.{filter_mapping};
     ghost use Rattle.dp_rowwise.specs.FilterLaw.{filter_law};
 
-    ghost mapping = { λ t. filter_mapping t.column t.text.items t.columns };
+    ghost mapping = { λ t. filter_mapping t.column t.text.items t.columns t.metric };
 
     fn in_domain(&self) -> Domain {
         Domain::Rows {
@@ -68,7 +69,7 @@ impl Transformation for Filter {
     }
 
     fn in_metric(&self) -> Metric {
-        Metric::Symmetric
+        self.metric
     }
 
     fn out_domain(&self) -> Domain {
@@ -78,7 +79,7 @@ impl Transformation for Filter {
     }
 
     fn out_metric(&self) -> Metric {
-        Metric::Symmetric
+        self.metric
     }
 
     fn map(&self, d: u64) -> Result<u64, Past> {
@@ -91,7 +92,18 @@ impl Transformation for Filter {
         Ok(Value::Rows(Rows::from_vec(kept)))
     }
 
-    ghost law = { λ t. filter_law t.column t.text.items t.columns t.fits };
+    ghost law = { λ t. filter_law t.column t.text.items t.columns t.metric t.fits };
+}
+
+/// Whether the metric compares records of so many cells: `Symmetric`, or `Users` of one of their columns.
+fn compares_rows(columns: u32, metric: Metric) -> bool
+    ensures { result ≡ compares_rows columns metric }
+{
+    match metric {
+        Metric::Symmetric => true,
+        Metric::Users(user) => user < columns,
+        _ => false,
+    }
 }
 
 /// The records whose cell in the column is the text.
@@ -107,7 +119,7 @@ fn matching(
     let mut kept = Vec::new(alloc);
     for cells in rows {
         if has_text(cells, column, text) {
-            kept.push(copy_record(alloc, cells)?)?;
+            kept.push(cells.duplicate(alloc)?)?;
         }
     }
     Ok(kept)

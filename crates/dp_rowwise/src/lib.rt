@@ -6,7 +6,6 @@ mod binning;
 mod casting;
 mod categorising;
 mod clamping;
-mod copying;
 mod dropping;
 mod filtering;
 mod imputing;

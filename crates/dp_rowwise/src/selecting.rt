@@ -6,9 +6,8 @@ ghost use Rattle.dp_law.specs.Making.{Makes};
 ghost use Rattle.dp_domain.specs.Users.{cell};
 ghost use Rattle.dp_rowwise.specs.Select.{select_from};
 
-use crate::copying::copy_text;
 use dp_count::NoMemory;
-use dp_domain::{Domain, Metric, Record, Text, Texts, Value};
+use dp_domain::{Domain, Duplicate, Metric, Record, Text, Texts, Value};
 use dp_law::{Refused, Transformation};
 use dp_num::Past;
 use std::alloc::Global;
@@ -98,5 +97,5 @@ fn cell_of(alloc: Global, cells: &Record, column: u32) -> Result<Text, NoMemory>
     requires { column < length cells.now }
     ensures { IfOk result (λ text. text ≡ cell column cells.now) }
 {
-    copy_text(alloc, cells.at(u64::from(column)))
+    cells.at(u64::from(column)).duplicate(alloc)
 }

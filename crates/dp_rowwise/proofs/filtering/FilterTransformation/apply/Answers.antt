@@ -14,4 +14,4 @@ returns-clause-within c =
     let chosen = λ (text : List ℕ) (rows : List (List (List ℕ))). filter (λ cells. text_eq (cell t.column cells) text) rows in
     let same : value.Rows c.from_vec.result ≡ filter_value t.column t.text.items c.args.v.now =
     rw c.in-Rows.is (ap value.Rows (c.from_vec.ensures ∙ c.in_ok-kept.ensures ∙ ap (chosen c.as_slice-2.result.now) c.as_slice.ensures ∙ ap (λ text. chosen text c.in-Rows.rows) c.as_slice-2.ensures.value)) in
-    lands_at (filter_mapping t.column t.text.items t.columns) (filter_law t.column t.text.items t.columns t.fits) c.args.v.now (value.Rows c.from_vec.result) same c.requires
+    lands_at (filter_mapping t.column t.text.items t.columns t.metric) (filter_law t.column t.text.items t.columns t.metric t.fits) c.args.v.now (value.Rows c.from_vec.result) same c.requires
