@@ -6,4 +6,5 @@ pub mod Growth
 pub mod Histograms
 pub mod Limits
 pub mod Occurrences
+pub mod Places
 pub mod WeightedSums

@@ -14,3 +14,5 @@ pub mod Impute
 pub mod ImputeLaw
 pub mod Select
 pub mod SelectLaw
+pub mod Truncate
+pub mod TruncateProof
