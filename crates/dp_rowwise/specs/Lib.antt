@@ -12,6 +12,7 @@ pub mod Filter
 pub mod FilterLaw
 pub mod Impute
 pub mod ImputeLaw
+pub mod Persons
 pub mod Select
 pub mod SelectLaw
 pub mod Truncate

@@ -45,7 +45,7 @@ record_cmp-total = lists_total nat_list_cmp_total
 record-ties : (x y : List (List ℕ)) → record_eq x y ≡ is_eq (record_cmp x y)
 record-ties x y = lists_ties text_cmp texts_ties x y
 
-lt-nat_cmp : (j i : ℕ) → is_lt (nat_cmp j i) ≡ nat_lt j i
+pub lt-nat_cmp : (j i : ℕ) → is_lt (nat_cmp j i) ≡ nat_lt j i
 lt-nat_cmp j i = elim (cases_Bool (nat_lt j i)) [
   | inl h ↦ rw h refl
   | inr h ↦ rw h (elim (cases_Bool (nat_eq j i)) [ inl k ↦ rw k refl | inr k ↦ rw k refl ])

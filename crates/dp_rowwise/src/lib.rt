@@ -9,6 +9,7 @@ mod clamping;
 mod dropping;
 mod filtering;
 mod imputing;
+mod persons;
 mod selecting;
 mod tables;
 
@@ -19,6 +20,7 @@ pub use clamping::Clamp;
 pub use dropping::DropNone;
 pub use filtering::Filter;
 pub use imputing::Impute;
+pub use persons::{kept_places, Records};
 pub use selecting::Select;
 
 #[cfg(test)]
