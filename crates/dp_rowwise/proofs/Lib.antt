@@ -1,3 +1,4 @@
+pub mod Comparing
 pub mod Edges
 pub mod Ordered
 pub mod Places

@@ -12,6 +12,7 @@ mod imputing;
 mod persons;
 mod selecting;
 mod tables;
+mod truncating;
 
 pub use binning::Bins;
 pub use casting::Cast;
@@ -22,6 +23,7 @@ pub use filtering::Filter;
 pub use imputing::Impute;
 pub use persons::{kept_places, Records};
 pub use selecting::Select;
+pub use truncating::Truncate;
 
 #[cfg(test)]
 mod tests;

@@ -33,7 +33,7 @@ pub trait Records {
 pub fn kept_places<R: Records>(
     alloc: Global,
     records: &R,
-    most: u32,
+    most: u64,
 ) -> Result<Vec<u32>, NoMemory>
     requires { 1 ≤ most }
     ensures { IfOk result (λ kept. kept.items ≡ kept_places (R.column records.now) most (R.rows records.now)) }
@@ -81,7 +81,7 @@ fn first_of_each<R: Records>(
     alloc: Global,
     records: &R,
     ordered: &[u32],
-    most: u32,
+    most: u64,
 ) -> Result<Vec<u32>, NoMemory>
     requires most { 1 ≤ most }
     requires all { IsPermutation (places (R.rows records.now)) ordered.now }
