@@ -1,27 +1,26 @@
 -- Places that are ordered by persons: how many of a person stand before one.
-use Rattle.std.proofs.Common.{◌≡◌, ℕ, ◌+◌, ◌-◌, ◌≤◌, ◌<◌, Bool, true, false, ◌&&◌, ◌||◌, List, [], ◌∷◌, length, get_or, take, drop, refl, sym, ◌∙◌, ap, inl, inr, arith, Less, Equal, Greater}
+use Rattle.std.proofs.Common.{◌≡◌, ℕ, ◌+◌, ◌-◌, ◌≤◌, ◌<◌, true, false, ◌&&◌, ◌||◌, List, length, get_or, take, drop, refl, sym, ◌∙◌, ap, inl, inr, arith, Less, Equal, Greater}
 use Rattle.std.specs.declared.cmp.Ordering.{Ordering}
 use Rattle.std.specs.Prelude.{count_by, All, nat_lt, nat_eq, not}
 use Rattle.std.specs.List.Sorted.{IsPermutation, IsSortedBy}
-use Rattle.std.specs.Ordering.{nat_cmp, is_lt, is_eq, ordering_then, ordering_reverse, on, then_cmp}
+use Rattle.std.specs.Ordering.{nat_cmp, is_lt, is_eq, ordering_then, ordering_reverse, on}
 use Rattle.std.specs.Cmp.{IsTotalOrder, IsStrictWeakOrder}
 use Rattle.std.specs.Cmp.Lexicographic.{nat_list_cmp_total, texts_ties}
 use Rattle.std.proofs.lemmas.Bool.{cases_Bool}
 use Rattle.std.proofs.lemmas.Bool.Decides.{nat_tests}
 use Rattle.std.proofs.lemmas.Cmp.{nat_cmp_total, then_total, on_total}
 use Rattle.std.proofs.lemmas.List.{length-take, length-drop, get_or-take, get_or-drop, get_or_default, drop_more}
-use Rattle.std.proofs.lemmas.List.Sorted.{length_permutation, sum_by-IsPermutation, ranks_by, sorted_far}
-use Rattle.std.proofs.lemmas.List.FromFn.{length-range_with_len}
+use Rattle.std.proofs.lemmas.List.Sorted.{sum_by-IsPermutation, ranks_by, sorted_far}
 use Rattle.std.proofs.lemmas.List.Sums.{sum_by-take-drop}
-use Rattle.dp_domain.specs.Distance.{occurrences, text_eq, record_eq}
+use Rattle.dp_domain.specs.Distance.{occurrences, text_eq}
 use Rattle.dp_domain.specs.Users.{cell}
 use Rattle.dp_domain.proofs.Occurrences.{one, occurrences-permutation}
-use Rattle.dp_domain.proofs.Equality.{nat_eq-decides, text_eq-decides}
+use Rattle.dp_domain.proofs.Equality.{text_eq-decides}
 use Rattle.dp_domain.proofs.Histograms.{range-once}
 use Rattle.dp_domain.proofs.Places.{count_by-none, none-from-count, count_by-same-all, count_by-end, stands-first}
 use Rattle.dp_rowwise.specs.Truncate.{text_cmp, record_cmp, places, record_at, same_person, ranks_before, rank}
 use Rattle.dp_rowwise.specs.Persons.{person_cmp, place_cmp}
-use Rattle.dp_rowwise.specs.TruncateProof.{Records, record_cmp-total, before-is, lt-nat_cmp}
+use Rattle.dp_rowwise.specs.TruncateProof.{Records, record_cmp-total, before-is}
 
 -- the order of a person's places
 abbrev by_person : ℕ → Records → ℕ → ℕ → Ordering
@@ -137,12 +136,12 @@ module _ (column : ℕ) (rows : Records) (ordered : List ℕ) (all : IsPermutati
       let in_drop = length-drop index ordered in
       let in_take = length-take index ordered in
       let later : All (λ j. test j ≡ false) (drop index ordered) = λ k d m.
-          let same = get_or_default (drop index ordered) k d 0 m in
-          ap test (same ∙ get_or-drop index ordered k 0) ∙ test-late column rows (get_or ordered (index + k) 0) x (not-before index (index + k) (omega arith) (omega arith)) in
+      let same = get_or_default (drop index ordered) k d 0 m in
+      ap test (same ∙ get_or-drop index ordered k 0) ∙ test-late column rows (get_or ordered (index + k) 0) x (not-before index (index + k) (omega arith) (omega arith)) in
       let earlier : All (λ j. test j ≡ same_person column rows j x) (take index ordered) = λ k d m.
-          let under : k < index = omega arith in
-          let same = get_or_default (take index ordered) k d 0 m ∙ get_or-take index ordered k 0 under in
-          ap test same ∙ test-early column rows (get_or ordered k 0) x (strictly-before k index under within) ∙ ap (λ (j : ℕ). same_person column rows j x) (sym same) in
+      let under : k < index = omega arith in
+      let same = get_or_default (take index ordered) k d 0 m ∙ get_or-take index ordered k 0 under in
+      ap test same ∙ test-early column rows (get_or ordered k 0) x (strictly-before k index under within) ∙ ap (λ (j : ℕ). same_person column rows j x) (sym same) in
       let none = count_by-none test (drop index ordered) later in
       let some = count_by-same-all test (λ j. same_person column rows j x) (take index ordered) earlier in
       omega arith
@@ -156,21 +155,21 @@ module _ (column : ℕ) (rows : Records) (ordered : List ℕ) (all : IsPermutati
       let short = length-take index ordered in
       let long : length (take index ordered) ≡ index = omega arith in
       let closed : (a b : ℕ) → a ≤ b → b < length (take index ordered) → mine (get_or (take index ordered) a 0) ≡ true → mine (get_or (take index ordered) b 0) ≡ true = λ a b h k s.
-          ap mine (get_or-take index ordered b 0 (omega arith))
-          ∙ between a b index h (omega arith) within (ap mine (sym (get_or-take index ordered a 0 (omega arith))) ∙ s) in
+      ap mine (get_or-take index ordered b 0 (omega arith))
+      ∙ between a b index h (omega arith) within (ap mine (sym (get_or-take index ordered a 0 (omega arith))) ∙ s) in
       let whole = count_by-end mine (take index ordered) most some closed in
       let ranked = ap (λ (n : ℕ). nat_lt n most) (sym (rank-before index within)) in
       elim (cases_Bool (nat_lt index most)) [
         | inl h ↦
-          let first : nat_lt (length (take index ordered)) most ≡ true = ap (λ (n : ℕ). nat_lt n most) long ∙ h in
-          let all_early = rw first at whole in
-          rw h (all_early ∙ ranked)
+            let first : nat_lt (length (take index ordered)) most ≡ true = ap (λ (n : ℕ). nat_lt n most) long ∙ h in
+            let all_early = rw first at whole in
+            rw h (all_early ∙ ranked)
         | inr h ↦
-          let over : most ≤ index = grind (arith, nat_tests) in
-          let first : nat_lt (length (take index ordered)) most ≡ false = ap (λ (n : ℕ). nat_lt n most) long ∙ h in
-          let by_place = rw first at whole in
-          let at = ap (λ (n : ℕ). get_or (take index ordered) (n - most) 0) long ∙ get_or-take index ordered (index - most) 0 (omega arith) in
-          rw h (sym (ap (λ (j : ℕ). not (mine j)) at) ∙ by_place ∙ ranked)
+            let over : most ≤ index = grind (arith, nat_tests) in
+            let first : nat_lt (length (take index ordered)) most ≡ false = ap (λ (n : ℕ). nat_lt n most) long ∙ h in
+            let by_place = rw first at whole in
+            let at = ap (λ (n : ℕ). get_or (take index ordered) (n - most) 0) long ∙ get_or-take index ordered (index - most) 0 (omega arith) in
+            rw h (sym (ap (λ (j : ℕ). not (mine j)) at) ∙ by_place ∙ ranked)
       ]
 
   pub early-first : (index most : ℕ) → 1 ≤ most → index < length ordered → index < most → nat_lt index most ≡ nat_lt (rank column rows (get_or ordered index 0)) most

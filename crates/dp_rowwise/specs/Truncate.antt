@@ -1,5 +1,5 @@
 -- Keeping few records of each person.
-use Rattle.std.specs.Prelude.{ℕ, ◌*◌, ◌^◌, ◌&&◌, ◌||◌, Bool, List, [], Result, Err, map, filter, length, count_by, nat_lt, nat_le, slice_index_or}
+use Rattle.std.specs.Prelude.{◌≡◌, ℕ, ◌*◌, ◌^◌, ◌&&◌, ◌||◌, Bool, List, [], Result, Err, map, filter, length, count_by, nat_lt, nat_le, slice_index_or}
 use Rattle.std.specs.List.{range_with_len}
 use Rattle.std.specs.Ordering.{nat_cmp, is_lt}
 use Rattle.std.specs.declared.cmp.Ordering.{Ordering}
@@ -73,6 +73,10 @@ truncate_mapping column most columns = record {
   function = truncate_value column most;
   stability_map = λ d. capped (2 * most * d);
 }
+
+-- the meaning is that of truncating to at most so many records of each person, by some column
+abbrev pub Truncates : ℕ → Mapping → Type 0
+Truncates most meaning = (column : ℕ) × (columns : ℕ) × (meaning ≡ truncate_mapping column most columns)
 
 -- what truncating is on a domain and a metric
 abbrev pub truncate_from : ℕ → Domain → Metric → Result Mapping Refused

@@ -1,9 +1,8 @@
 -- Truncating is stable.
-use Rattle.std.proofs.Common.{◌≡◌, ℕ, suc, ◌+◌, ◌-◌, ◌*◌, ◌≤◌, ◌<◌, min, Bool, true, false, cond, ◌&&◌, ◌||◌, List, [], ◌∷◌, map, length, get_or, Some, refl, sym, ◌∙◌, ap, subst, inl, inr, arith, Less, Equal, Greater}
+use Rattle.std.proofs.Common.{◌≡◌, ℕ, ◌+◌, ◌-◌, ◌*◌, ◌≤◌, ◌<◌, min, Bool, true, false, ◌&&◌, ◌||◌, List, [], ◌∷◌, map, length, get_or, refl, sym, ◌∙◌, ap, subst, inl, inr, arith, Less, Equal, Greater}
 use Rattle.std.specs.declared.cmp.Ordering.{Ordering}
 use Rattle.std.specs.Prelude.{count_by, filter, All, nat_lt, nat_eq}
 use Rattle.std.specs.List.{range_with_len}
-use Rattle.std.specs.List.Sorted.{IsPermutation}
 use Rattle.std.specs.Ordering.{nat_cmp, is_lt, is_eq, ordering_then, ordering_reverse, on, then_cmp}
 use Rattle.std.specs.Cmp.{IsTotalOrder}
 use Rattle.std.specs.Cmp.Lexicographic.{lists_total, lists_ties, nat_list_cmp_total, texts_ties}
@@ -29,7 +28,6 @@ use Rattle.dp_domain.proofs.Distance.{diff-none, diff-order}
 use Rattle.dp_domain.proofs.Groups.{count_by-map, occurrences-filter, few-apart}
 use Rattle.dp_domain.proofs.Equality.{text_eq-decides, record_eq-decides}
 use Rattle.dp_domain.proofs.Places.{Last, Rising, map-places, count_by-before, count_by-first, count_by-same, count_by-filter, count_by-filter-le, count_by-all, count_by-cons, rising-range, rising-filter, last-of}
-use Rattle.dp_num.specs.Limits.{capped}
 use Rattle.dp_law.specs.Mapping.{IsStable}
 use Rattle.dp_law.proofs.Caps.{capped-same, capped-le}
 use Rattle.dp_rowwise.specs.Truncate.{text_cmp, record_cmp, places, record_at, same_person, ranks_before, rank, kept_places, truncated, truncate_value, truncate_mapping}
@@ -88,7 +86,7 @@ ranks-one_way : (rows : Records) (i j : ℕ) → i < j → ranks_before rows i j
 ranks-one_way rows i j h k =
     before-is rows j i
     ∙ one_way-by (record_cmp (record_at rows i) (record_at rows j)) (record_cmp (record_at rows j) (record_at rows i)) i j h
-      (record_cmp-total.antisymm (record_at rows j) (record_at rows i)) (sym (before-is rows i j) ∙ k)
+    (record_cmp-total.antisymm (record_at rows j) (record_at rows i)) (sym (before-is rows i j) ∙ k)
 
 count-parts_by : (a l e f t : Bool) → e ≡ f → (e ≡ true → a ≡ true) → (e ≡ true → l ≡ false) → one (a && (l || (e && t))) ≡ one (a && l) + one (f && t)
 count-parts_by a l true f t h j k = rw (← h, j refl, k refl) (omega arith)
@@ -116,7 +114,7 @@ rank-parts column rows r i h =
     let less = λ (x : List (List ℕ)). text_eq (cell column x) (cell column r) && is_lt (record_cmp x r) in
     let equal = λ (j : ℕ). record_eq r (record_at rows j) in
     let split = sum_by-same (λ j. one (same_person column rows j i && ranks_before rows j i)) (λ j. one (less (record_at rows j)) + one (equal j && nat_lt j i)) (places rows)
-      (λ j. rw h (part-at column (record_at rows j) r (nat_lt j i))) in
+    (λ j. rw h (part-at column (record_at rows j) r (nat_lt j i))) in
     let both = sum_by-add (λ j. one (less (record_at rows j))) (λ j. one (equal j && nat_lt j i)) (places rows) in
     let by_record = count_by-map less (record_at rows) (places rows) in
     let all = ap (count_by less) (map-places rows []) in
@@ -143,8 +141,8 @@ occurrences-truncated column most rows r =
     let by_place = count_by-map (record_eq r) (record_at rows) (filter keep (places rows)) in
     let both = count_by-filter keep equal (places rows) in
     let turned = count_by-same (λ i. keep i && equal i) (λ i. equal i && few i) (places rows) (λ i. kept-at (keep i) (equal i) (few i) (λ e.
-      ap (λ (n : ℕ). nat_lt n most) (rank-parts column rows r i (sym ((record_eq-decides r (record_at rows i)).0 e)))
-      ∙ lt-shift (less_of column rows r) (count_by equal (range_with_len 0 (min i (length rows)))) most)) in
+    ap (λ (n : ℕ). nat_lt n most) (rank-parts column rows r i (sym ((record_eq-decides r (record_at rows i)).0 e)))
+    ∙ lt-shift (less_of column rows r) (count_by equal (range_with_len 0 (min i (length rows)))) most)) in
     let first = count_by-first equal (most - less_of column rows r) (length rows) (length rows) (omega arith) in
     let all = sym (count_by-map (record_eq r) (record_at rows) (places rows)) ∙ ap (count_by (record_eq r)) (map-places rows []) in
     by_place ∙ both ∙ turned ∙ first ∙ ap (λ (n : ℕ). min n (most - less_of column rows r)) all
@@ -157,10 +155,10 @@ stays-same column most xs ys person none =
     let order = diff-none record_eq record_eq-decides (filter mine xs) (filter mine ys) none in
     diff-order record_eq record_eq-decides (filter mine (truncated column most xs)) (filter mine (truncated column most ys))
     (permutation-from record_eq record_eq-decides (filter mine (truncated column most xs)) (filter mine (truncated column most ys)) (λ r.
-      let left = occurrences-filter record_eq record_eq-decides mine (truncated column most xs) r in
-      let right = occurrences-filter record_eq record_eq-decides mine (truncated column most ys) r in
-      elim (cases_Bool (mine r)) [
-        | inl h ↦
+    let left = occurrences-filter record_eq record_eq-decides mine (truncated column most xs) r in
+    let right = occurrences-filter record_eq record_eq-decides mine (truncated column most ys) r in
+    elim (cases_Bool (mine r)) [
+      | inl h ↦
           let named : cell column r ≡ person = (text_eq-decides (cell column r) person).0 h in
           let left_all = rw h at (occurrences-filter record_eq record_eq-decides mine xs r) in
           let right_all = rw h at (occurrences-filter record_eq record_eq-decides mine ys r) in
@@ -175,8 +173,8 @@ stays-same column most xs ys person none =
           let same_often : occurrences record_eq xs r ≡ occurrences record_eq ys r = sym left_all ∙ sym often ∙ right_all in
           let same_less : less_of column xs r ≡ less_of column ys r = left_less ∙ sym less ∙ sym right_less in
           left_now ∙ left_stay ∙ rw (same_often, same_less) (sym right_stay) ∙ sym right_now
-        | inr h ↦ (rw h at left) ∙ sym (rw h at right)
-      ]))
+      | inr h ↦ (rw h at left) ∙ sym (rw h at right)
+    ]))
 
 both-true : (a b : Bool) → a ≡ true → b ≡ true → (a && b) ≡ true
 both-true true true h k = refl
@@ -196,10 +194,10 @@ few-from column most rows person kept l mine stay part =
     let last_mine = All-head (λ i. text_eq (cell column (record_at rows i)) person ≡ true) l.last l.rest all_mine in
     let rest_mine = All-tail (λ i. text_eq (cell column (record_at rows i)) person ≡ true) l.last l.rest all_mine in
     let last_stays : nat_lt (rank column rows l.last) most ≡ true =
-        All-head (λ i. nat_lt (rank column rows i) most ≡ true) l.last l.rest (All-permutation (λ i. nat_lt (rank column rows i) most ≡ true) kept (l.last ∷ l.rest) l.is stay) in
+    All-head (λ i. nat_lt (rank column rows i) most ≡ true) l.last l.rest (All-permutation (λ i. nat_lt (rank column rows i) most ≡ true) kept (l.last ∷ l.rest) l.is stay) in
     let passes : All (λ j. test j ≡ true) l.rest = λ k d m.
-        both-true (same_person column rows (get_or l.rest k d) l.last) (ranks_before rows (get_or l.rest k d) l.last)
-        (same-text (cell column (record_at rows (get_or l.rest k d))) (cell column (record_at rows l.last)) person (rest_mine k d m) last_mine) (l.below k d m) in
+    both-true (same_person column rows (get_or l.rest k d) l.last) (ranks_before rows (get_or l.rest k d) l.last)
+    (same-text (cell column (record_at rows (get_or l.rest k d))) (cell column (record_at rows l.last)) person (rest_mine k d m) last_mine) (l.below k d m) in
     let counted = count_by-all test l.rest passes in
     let whole = count_by-cons test l.last l.rest in
     let turned = sum_by-IsPermutation (λ j. one (test j)) kept (l.last ∷ l.rest) l.is in
@@ -226,10 +224,10 @@ few-stay column most rows person =
     let by_place = count_by-map mine (record_at rows) kept in
     let counted = length-filter (λ i. mine (record_at rows i)) kept in
     let few = few-by column most rows person (filter (λ i. mine (record_at rows i)) kept)
-      (rising-filter (λ i. mine (record_at rows i)) kept (rising-filter keep (places rows) (rising-range 0 (length rows))))
-      (filter_passes (λ i. mine (record_at rows i)) kept)
-      (All-filter (λ i. mine (record_at rows i)) (λ i. keep i ≡ true) kept (filter_passes keep (places rows)))
-      (λ q. let one_less = count_by-filter-le (λ i. mine (record_at rows i)) q kept in let other_less = count_by-filter-le keep q (places rows) in omega arith) in
+    (rising-filter (λ i. mine (record_at rows i)) kept (rising-filter keep (places rows) (rising-range 0 (length rows))))
+    (filter_passes (λ i. mine (record_at rows i)) kept)
+    (All-filter (λ i. mine (record_at rows i)) (λ i. keep i ≡ true) kept (filter_passes keep (places rows)))
+    (λ q. let one_less = count_by-filter-le (λ i. mine (record_at rows i)) q kept in let other_less = count_by-filter-le keep q (places rows) in omega arith) in
     omega arith
 
 -- the records that stay of two lists are apart by at most twice so many for each person that differs
@@ -251,9 +249,11 @@ truncate_lands column most columns (value.Rows rows) has =
     let long = length-map (filter keep (places rows)) (record_at rows) in
     let kept = length-filter keep (places rows) in
     let few = count_by-le-length keep (places rows) in
-    let all = length-range_with_len 0 (length rows) in
-    (omega (arith, has.0), All-map (λ cells. length cells ≡ columns) (record_at rows) (filter keep (places rows))
-      (All-filter keep (λ i. length (record_at rows i) ≡ columns) (places rows) (places-all (λ cells. length cells ≡ columns) rows has.1)))
+    let all = length-range_with_len 0 (length rows) in (
+      omega (arith, has.0),
+      All-map (λ cells. length cells ≡ columns) (record_at rows) (filter keep (places rows))
+          (All-filter keep (λ i. length (record_at rows i) ≡ columns) (places rows) (places-all (λ cells. length cells ≡ columns) rows has.1)),
+    )
 truncate_lands column most columns v has = absurd has
 
 truncate_stable : (column most columns d e : ℕ) (v w : Value) → 2 * most * d ≡ e → Has (domain.Rows columns) v → Has (domain.Rows columns) w

@@ -21,7 +21,7 @@ pub use clamping::Clamp;
 pub use dropping::DropNone;
 pub use filtering::Filter;
 pub use imputing::Impute;
-pub use persons::{kept_places, Records};
+pub use persons::{Records, kept_places};
 pub use selecting::Select;
 pub use truncating::Truncate;
 

@@ -30,11 +30,7 @@ pub trait Records {
 
 /// The places whose records stay where each person keeps at most so many, in order. The work is that of sorting the
 /// places.
-pub fn kept_places<R: Records>(
-    alloc: Global,
-    records: &R,
-    most: u64,
-) -> Result<Vec<u32>, NoMemory>
+pub fn kept_places<R: Records>(alloc: Global, records: &R, most: u64) -> Result<Vec<u32>, NoMemory>
     requires { 1 ≤ most }
     ensures { IfOk result (λ kept. kept.items ≡ kept_places (R.column records.now) most (R.rows records.now)) }
 {

@@ -4,13 +4,13 @@ ghost use Rattle.dp_domain.specs.Domains.{Fits};
 ghost use Rattle.dp_domain.specs.declared.domains.Domain.TheVariants as domain;
 ghost use Rattle.dp_domain.proofs.Limits.{Fits-prop};
 ghost use Rattle.dp_law.specs.Making.{Makes};
-ghost use Rattle.dp_rowwise.specs.Truncate.{text_cmp, record_cmp, record_at, truncated, truncate_from};
+ghost use Rattle.dp_rowwise.specs.Truncate.{text_cmp, record_cmp, record_at, truncated, truncate_from, Truncates};
 
-use crate::persons::{kept_places, Records};
+use crate::persons::{Records, kept_places};
 use dp_count::NoMemory;
 use dp_domain::{Domain, Duplicate, Metric, Record, Rows, Text, Value};
 use dp_law::{Refused, Transformation};
-use dp_num::{mul_units, Past};
+use dp_num::{Past, mul_units};
 use std::alloc::Global;
 use std::cmp::Ordering;
 
@@ -59,7 +59,7 @@ impl Truncate {
 
     /// How many records of a person stay at most.
     pub fn most(&self) -> u64
-        ensures { result ≡ self.now.most }
+        ensures { Truncates result (⟦<Truncate as Transformation>⟧.mapping self.now) }
     {
         self.most
     }
@@ -132,7 +132,8 @@ impl<'a> Records for Listed<'a> {
     }
 
     fn same_person(&self, i: u32, j: u32) -> bool {
-        cell_in(record_at(self.rows, i), self.column) == cell_in(record_at(self.rows, j), self.column)
+        cell_in(record_at(self.rows, i), self.column)
+            == cell_in(record_at(self.rows, j), self.column)
     }
 }
 
