@@ -30,7 +30,8 @@ AreDifferent {E} {K} by keys = (k : K) → occurrences by.same_key keys k ≤ 1
 
 -- each key of the two lists' elements stands among the keys
 abbrev pub CoverKeys : {E K : Type 0} → Grouping E K → List K → List E → List E → Type 0
-CoverKeys {E} {K} by keys xs ys = (k : K) → 1 ≤ occurrences by.same_key (map by.key (xs ++ ys)) k → 1 ≤ occurrences by.same_key keys k
+CoverKeys {E} {K} by keys xs ys = (k : K) → 1 ≤ occurrences by.same_key (map by.key (xs ++ ys)) k
+    → 1 ≤ occurrences by.same_key keys k
 
 -- the number of groups that differ is the same either way round
 abbrev pub PartsSymmetricLaw : Type 0 → Type 0 → Type 0
@@ -38,11 +39,13 @@ PartsSymmetricLaw E K = (by : Grouping E K) (xs ys : List E) → parts_apart by 
 
 -- order plays no part: a list may be put in another order
 abbrev pub PartsReorderLaw : Type 0 → Type 0 → Type 0
-PartsReorderLaw E K = (by : Grouping E K) (xs ys zs : List E) → IsPermutation xs ys → parts_apart by xs zs ≡ parts_apart by ys zs
+PartsReorderLaw E K = (by : Grouping E K) (xs ys zs : List E) → IsPermutation xs ys
+    → parts_apart by xs zs ≡ parts_apart by ys zs
 
 -- no group differs where the lists are the same in another order, and nowhere else
 abbrev pub PartsOrderLaw : Type 0 → Type 0 → Type 0
-PartsOrderLaw E K = (by : Grouping E K) (xs ys : List E) → (IsPermutation xs ys → parts_apart by xs ys ≡ 0) × (parts_apart by xs ys ≡ 0 → IsPermutation xs ys)
+PartsOrderLaw E K = (by : Grouping E K) (xs ys : List E)
+    → (IsPermutation xs ys → parts_apart by xs ys ≡ 0) × (parts_apart by xs ys ≡ 0 → IsPermutation xs ys)
 
 -- no different keys are more keys whose groups differ
 abbrev pub MostPartsLaw : Type 0 → Type 0 → Type 0
@@ -51,7 +54,8 @@ MostPartsLaw E K = (by : Grouping E K) (xs ys : List E) (keys : List K) → AreD
 
 -- and different keys that cover both lists are as many
 abbrev pub CoverPartsLaw : Type 0 → Type 0 → Type 0
-CoverPartsLaw E K = (by : Grouping E K) (xs ys : List E) (keys : List K) → AreDifferent by keys → CoverKeys by keys xs ys
+CoverPartsLaw E K = (by : Grouping E K) (xs ys : List E) (keys : List K) → AreDifferent by keys
+    → CoverKeys by keys xs ys
     → count_by (λ k. nat_lt 0 (part_diff by xs ys k)) keys ≡ parts_apart by xs ys
 
 -- the groups of different keys are together no further apart than the lists
@@ -61,7 +65,8 @@ PartSumLaw E K = (by : Grouping E K) (xs ys : List E) (keys : List K) → AreDif
 
 -- and those of different keys that cover both lists are together as far apart as the lists
 abbrev pub CoverSumLaw : Type 0 → Type 0 → Type 0
-CoverSumLaw E K = (by : Grouping E K) (xs ys : List E) (keys : List K) → AreDifferent by keys → CoverKeys by keys xs ys
+CoverSumLaw E K = (by : Grouping E K) (xs ys : List E) (keys : List K) → AreDifferent by keys
+    → CoverKeys by keys xs ys
     → sum_by (part_diff by xs ys) keys ≡ diff by.same xs ys
 
 -- a filter raises no number of groups that differ

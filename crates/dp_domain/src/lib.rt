@@ -15,3 +15,6 @@ pub use domains::Domain;
 pub use lists::{Cats, Cells, Ints, Items, OptInts, Record, Rows, Text, Texts};
 pub use metrics::Metric;
 pub use values::Value;
+
+#[cfg(test)]
+mod tests;

@@ -12,7 +12,8 @@ less-one n = grind (arith, nat_tests)
 greater-one : (n : ℕ) → Greater ≡ nat_cmp (suc n) 0
 greater-one n = grind (arith, nat_tests)
 
-shorter-first : {X : Type 0} (R : X → X → Ordering) (xs ys : List X) → min (length xs) (length ys) ≡ 0 → slice_cmp R xs ys ≡ nat_cmp (length xs) (length ys)
+shorter-first : {X : Type 0} (R : X → X → Ordering) (xs ys : List X) → min (length xs) (length ys) ≡ 0
+    → slice_cmp R xs ys ≡ nat_cmp (length xs) (length ys)
 shorter-first R [] [] h = refl
 shorter-first R [] (y ∷ ys) h = less-one (length ys)
 shorter-first R (x ∷ xs) [] h = greater-one (length xs)
@@ -22,7 +23,8 @@ less-both : (a b n : ℕ) → n ≤ a → n ≤ b → nat_cmp (a - n) (b - n) �
 less-both a b n h k = grind (arith, nat_tests)
 
 -- after as many elements as the shorter list has, the lengths decide
-pub lengths-decide : {X : Type 0} (R : X → X → Ordering) (xs ys : List X) (n : ℕ) → min (length xs) (length ys) ≡ n → slice_cmp R (drop n xs) (drop n ys) ≡ nat_cmp (length xs) (length ys)
+pub lengths-decide : {X : Type 0} (R : X → X → Ordering) (xs ys : List X) (n : ℕ) → min (length xs) (length ys) ≡ n
+    → slice_cmp R (drop n xs) (drop n ys) ≡ nat_cmp (length xs) (length ys)
 lengths-decide R xs ys n h =
     let left = length-drop n xs in
     let right = length-drop n ys in

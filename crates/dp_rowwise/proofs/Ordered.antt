@@ -27,7 +27,9 @@ abbrev by_person : ℕ → Records → ℕ → ℕ → Ordering
 by_person column rows = on (λ i. cell column (record_at rows i)) text_cmp
 
 pub place_cmp-total : (column : ℕ) (rows : Records) → IsTotalOrder (place_cmp column rows)
-place_cmp-total column rows = then_total (then_total (on_total (λ i. cell column (record_at rows i)) nat_list_cmp_total) (on_total (record_at rows) record_cmp-total)) nat_cmp_total
+place_cmp-total column rows =
+    then_total (then_total (on_total (λ i. cell column (record_at rows i)) nat_list_cmp_total)
+    (on_total (record_at rows) record_cmp-total)) nat_cmp_total
 
 pub place_cmp-weak : (column : ℕ) (rows : Records) → IsStrictWeakOrder (λ i j. is_lt (place_cmp column rows i j))
 place_cmp-weak column rows = ranks_by (place_cmp-total column rows) (λ i. i)
@@ -64,38 +66,47 @@ is-equal Equal h = refl
 is-equal Greater h = absurd cc
 
 -- among the places of a person the order is that of their ranks
-same-ranks : (column : ℕ) (rows : Records) (i j : ℕ) → same_person column rows i j ≡ true → ranks_before rows i j ≡ is_lt (place_cmp column rows i j)
+same-ranks : (column : ℕ) (rows : Records) (i j : ℕ) → same_person column rows i j ≡ true
+    → ranks_before rows i j ≡ is_lt (place_cmp column rows i j)
 same-ranks column rows i j h =
     let x = cell column (record_at rows i) in
     let y = cell column (record_at rows j) in
     let tied = is-equal (text_cmp x y) (sym (texts_ties x y) ∙ h) in
-    before-is rows i j ∙ sym (ap (λ (o : Ordering). is_lt (ordering_then (ordering_then o (record_cmp (record_at rows i) (record_at rows j))) (nat_cmp i j))) tied)
+    before-is rows i j ∙ sym
+        (ap (λ (o : Ordering). is_lt
+        (ordering_then (ordering_then o (record_cmp (record_at rows i) (record_at rows j))) (nat_cmp i j))) tied)
 
-test-late : (column : ℕ) (rows : Records) (i j : ℕ) → is_lt (place_cmp column rows i j) ≡ false → (same_person column rows i j && ranks_before rows i j) ≡ false
+test-late : (column : ℕ) (rows : Records) (i j : ℕ) → is_lt (place_cmp column rows i j) ≡ false
+    → (same_person column rows i j && ranks_before rows i j) ≡ false
 test-late column rows i j h = elim (cases_Bool (same_person column rows i j)) [
   | inl k ↦ let later = same-ranks column rows i j k ∙ h in rw k later
   | inr k ↦ rw k refl
 ]
 
-test-early : (column : ℕ) (rows : Records) (i j : ℕ) → is_lt (place_cmp column rows i j) ≡ true → (same_person column rows i j && ranks_before rows i j) ≡ same_person column rows i j
+test-early : (column : ℕ) (rows : Records) (i j : ℕ) → is_lt (place_cmp column rows i j) ≡ true
+    → (same_person column rows i j && ranks_before rows i j) ≡ same_person column rows i j
 test-early column rows i j h = elim (cases_Bool (same_person column rows i j)) [
   | inl k ↦ let earlier = same-ranks column rows i j k ∙ h in rw k earlier
   | inr k ↦ rw k refl
 ]
 
-module _ (column : ℕ) (rows : Records) (ordered : List ℕ) (all : IsPermutation (places rows) ordered) (sorted : IsSortedBy (λ i j. is_lt (place_cmp column rows i j)) ordered) where
+module _ (column : ℕ) (rows : Records) (ordered : List ℕ) (all : IsPermutation (places rows) ordered)
+    (sorted : IsSortedBy (λ i j. is_lt (place_cmp column rows i j)) ordered) where
   -- a later place is not before an earlier one
   not-before : (a b : ℕ) → a ≤ b → b < length ordered → is_lt (place_cmp column rows (get_or ordered b 0) (get_or ordered a 0)) ≡ false
   not-before a b h k = sorted_far (λ i j. is_lt (place_cmp column rows i j)) (place_cmp-weak column rows) ordered sorted a b 0 h k
 
-  person-not-before : (a b : ℕ) → a ≤ b → b < length ordered → is_lt (text_cmp (cell column (record_at rows (get_or ordered b 0))) (cell column (record_at rows (get_or ordered a 0)))) ≡ false
+  person-not-before : (a b : ℕ) → a ≤ b → b < length ordered
+      → is_lt (text_cmp (cell column (record_at rows (get_or ordered b 0))) (cell column (record_at rows (get_or ordered a 0)))) ≡ false
   person-not-before a b h k =
       let i = get_or ordered b 0 in
       let j = get_or ordered a 0 in
-      not-before_by (text_cmp (cell column (record_at rows i)) (cell column (record_at rows j))) (record_cmp (record_at rows i) (record_at rows j)) (nat_cmp i j) (not-before a b h k)
+      not-before_by (text_cmp (cell column (record_at rows i)) (cell column (record_at rows j)))
+          (record_cmp (record_at rows i) (record_at rows j)) (nat_cmp i j) (not-before a b h k)
 
   -- between two places of a person stand only places of that person
-  between : (a b c : ℕ) → a ≤ b → b ≤ c → c < length ordered → same_person column rows (get_or ordered a 0) (get_or ordered c 0) ≡ true → same_person column rows (get_or ordered b 0) (get_or ordered c 0) ≡ true
+  between : (a b c : ℕ) → a ≤ b → b ≤ c → c < length ordered → same_person column rows (get_or ordered a 0) (get_or ordered c 0) ≡ true
+      → same_person column rows (get_or ordered b 0) (get_or ordered c 0) ≡ true
   between a b c h k m same =
       let first = cell column (record_at rows (get_or ordered a 0)) in
       let middle = cell column (record_at rows (get_or ordered b 0)) in
@@ -118,15 +129,19 @@ module _ (column : ℕ) (rows : Records) (ordered : List ℕ) (all : IsPermutati
       let none = none-from-count (nat_eq x) (take b ordered) (omega arith) a 0 (omega arith) in
       ap (nat_eq x) (sym (get_or-take b ordered a 0 h)) ∙ none
 
-  strictly-before : (a b : ℕ) → a < b → b < length ordered → is_lt (place_cmp column rows (get_or ordered a 0) (get_or ordered b 0)) ≡ true
+  strictly-before : (a b : ℕ) → a < b → b < length ordered
+      → is_lt (place_cmp column rows (get_or ordered a 0) (get_or ordered b 0)) ≡ true
   strictly-before a b h k =
       let i = get_or ordered b 0 in
       let j = get_or ordered a 0 in
-      greater_by (place_cmp column rows i j) (place_cmp column rows j i) ((place_cmp-total column rows).antisymm j i) (not-before a b (omega arith) k)
+      greater_by (place_cmp column rows i j) (place_cmp column rows j i) ((place_cmp-total column rows).antisymm j i)
+          (not-before a b (omega arith) k)
       (not-tied (person_cmp column rows i j) i j (apart-places a b h k))
 
   -- the rank of a place is the number of its person's places before it
-  rank-before : (index : ℕ) → index < length ordered → rank column rows (get_or ordered index 0) ≡ count_by (λ j. same_person column rows j (get_or ordered index 0)) (take index ordered)
+  rank-before : (index : ℕ) → index < length ordered
+      → rank column rows (get_or ordered index 0) ≡ count_by (λ j. same_person column rows j (get_or ordered index 0))
+      (take index ordered)
   unfolding rank
   rank-before index within =
       let x = get_or ordered index 0 in
@@ -137,24 +152,28 @@ module _ (column : ℕ) (rows : Records) (ordered : List ℕ) (all : IsPermutati
       let in_take = length-take index ordered in
       let later : All (λ j. test j ≡ false) (drop index ordered) = λ k d m.
       let same = get_or_default (drop index ordered) k d 0 m in
-      ap test (same ∙ get_or-drop index ordered k 0) ∙ test-late column rows (get_or ordered (index + k) 0) x (not-before index (index + k) (omega arith) (omega arith)) in
+      ap test (same ∙ get_or-drop index ordered k 0)
+          ∙ test-late column rows (get_or ordered (index + k) 0) x (not-before index (index + k) (omega arith) (omega arith)) in
       let earlier : All (λ j. test j ≡ same_person column rows j x) (take index ordered) = λ k d m.
       let under : k < index = omega arith in
       let same = get_or_default (take index ordered) k d 0 m ∙ get_or-take index ordered k 0 under in
-      ap test same ∙ test-early column rows (get_or ordered k 0) x (strictly-before k index under within) ∙ ap (λ (j : ℕ). same_person column rows j x) (sym same) in
+      ap test same ∙ test-early column rows (get_or ordered k 0) x (strictly-before k index under within)
+          ∙ ap (λ (j : ℕ). same_person column rows j x) (sym same) in
       let none = count_by-none test (drop index ordered) later in
       let some = count_by-same-all test (λ j. same_person column rows j x) (take index ordered) earlier in
       omega arith
 
   -- the test of the loop
   pub early-is : (index most : ℕ) → 1 ≤ most → index < length ordered
-      → (nat_lt index most || not (same_person column rows (get_or ordered (index - most) 0) (get_or ordered index 0))) ≡ nat_lt (rank column rows (get_or ordered index 0)) most
+      → (nat_lt index most || not (same_person column rows (get_or ordered (index - most) 0) (get_or ordered index 0))) ≡ nat_lt
+          (rank column rows (get_or ordered index 0)) most
   early-is index most some within =
       let x = get_or ordered index 0 in
       let mine = λ (j : ℕ). same_person column rows j x in
       let short = length-take index ordered in
       let long : length (take index ordered) ≡ index = omega arith in
-      let closed : (a b : ℕ) → a ≤ b → b < length (take index ordered) → mine (get_or (take index ordered) a 0) ≡ true → mine (get_or (take index ordered) b 0) ≡ true = λ a b h k s.
+      let closed : (a b : ℕ) → a ≤ b → b < length (take index ordered) → mine (get_or (take index ordered) a 0) ≡ true
+          → mine (get_or (take index ordered) b 0) ≡ true = λ a b h k s.
       ap mine (get_or-take index ordered b 0 (omega arith))
       ∙ between a b index h (omega arith) within (ap mine (sym (get_or-take index ordered a 0 (omega arith))) ∙ s) in
       let whole = count_by-end mine (take index ordered) most some closed in
@@ -168,17 +187,20 @@ module _ (column : ℕ) (rows : Records) (ordered : List ℕ) (all : IsPermutati
             let over : most ≤ index = grind (arith, nat_tests) in
             let first : nat_lt (length (take index ordered)) most ≡ false = ap (λ (n : ℕ). nat_lt n most) long ∙ h in
             let by_place = rw first at whole in
-            let at = ap (λ (n : ℕ). get_or (take index ordered) (n - most) 0) long ∙ get_or-take index ordered (index - most) 0 (omega arith) in
+            let at = ap (λ (n : ℕ). get_or (take index ordered) (n - most) 0) long
+                ∙ get_or-take index ordered (index - most) 0 (omega arith) in
             rw h (sym (ap (λ (j : ℕ). not (mine j)) at) ∙ by_place ∙ ranked)
       ]
 
-  pub early-first : (index most : ℕ) → 1 ≤ most → index < length ordered → index < most → nat_lt index most ≡ nat_lt (rank column rows (get_or ordered index 0)) most
+  pub early-first : (index most : ℕ) → 1 ≤ most → index < length ordered → index < most
+      → nat_lt index most ≡ nat_lt (rank column rows (get_or ordered index 0)) most
   early-first index most some within under =
       let h : nat_lt index most ≡ true = grind (arith, nat_tests) in
       h ∙ rw h at (early-is index most some within)
 
   pub early-later : (index most : ℕ) → 1 ≤ most → index < length ordered → most ≤ index
-      → not (same_person column rows (get_or ordered (index - most) 0) (get_or ordered index 0)) ≡ nat_lt (rank column rows (get_or ordered index 0)) most
+      → not (same_person column rows (get_or ordered (index - most) 0) (get_or ordered index 0)) ≡ nat_lt
+          (rank column rows (get_or ordered index 0)) most
   early-later index most some within over =
       let h : nat_lt index most ≡ false = grind (arith, nat_tests) in
       rw h at (early-is index most some within)

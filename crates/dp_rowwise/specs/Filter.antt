@@ -38,5 +38,6 @@ filter_mapping column text columns metric = record {
 
 -- what filtering is on a domain and a metric
 abbrev pub filter_from : ℕ → List ℕ → Domain → Metric → Result Mapping Refused
-filter_from column text (domain.Rows columns) metric = tested (compares_rows columns metric) (nat_lt column columns) (filter_mapping column text columns metric)
+filter_from column text (domain.Rows columns) metric =
+    tested (compares_rows columns metric) (nat_lt column columns) (filter_mapping column text columns metric)
 filter_from column text _ metric = Err refused.Kind

@@ -7,7 +7,9 @@ use Rattle.dp_rowwise.specs.Truncate.{text_cmp, record_cmp, record_at}
 
 -- two places by their cells in the column, and then by their records
 abbrev pub person_cmp : ℕ → List (List (List ℕ)) → ℕ → ℕ → Ordering
-person_cmp column rows i j = ordering_then (text_cmp (cell column (record_at rows i)) (cell column (record_at rows j))) (record_cmp (record_at rows i) (record_at rows j))
+person_cmp column rows i j =
+    ordering_then (text_cmp (cell column (record_at rows i)) (cell column (record_at rows j)))
+    (record_cmp (record_at rows i) (record_at rows j))
 
 -- and places of equal records by themselves
 abbrev pub place_cmp : ℕ → List (List (List ℕ)) → ℕ → ℕ → Ordering

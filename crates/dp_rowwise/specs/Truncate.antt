@@ -40,7 +40,9 @@ same_person column rows j i = text_eq (cell column (record_at rows j)) (cell col
 
 -- the record at place j is less than that at place i, or it is equal to it and stands before it
 abbrev pub ranks_before : List (List (List ℕ)) → ℕ → ℕ → Bool
-ranks_before rows j i = is_lt (record_cmp (record_at rows j) (record_at rows i)) || (record_eq (record_at rows j) (record_at rows i) && nat_lt j i)
+ranks_before rows j i =
+    is_lt (record_cmp (record_at rows j) (record_at rows i)) ||
+    (record_eq (record_at rows j) (record_at rows i) && nat_lt j i)
 
 -- how many places of the same person rank before a place
 unfoldable pub rank : ℕ → List (List (List ℕ)) → ℕ → ℕ
@@ -80,6 +82,7 @@ Truncates most meaning = (column : ℕ) × (columns : ℕ) × (meaning ≡ trunc
 
 -- what truncating is on a domain and a metric
 abbrev pub truncate_from : ℕ → Domain → Metric → Result Mapping Refused
-truncate_from most (domain.Rows columns) (metrics.Users column) = tested (nat_lt column columns) (is_most most) (truncate_mapping column most columns)
+truncate_from most (domain.Rows columns) (metrics.Users column) =
+    tested (nat_lt column columns) (is_most most) (truncate_mapping column most columns)
 truncate_from most (domain.Rows columns) _ = Err refused.Metric
 truncate_from most _ _ = Err refused.Kind

@@ -60,7 +60,7 @@ impl Bins {
 
 impl Transformation for Bins {
     ghost use Rattle.dp_rowwise.specs.Bins.{bins_mapping};
-    ghost use Rattle.dp_rowwise.specs.BinsLaw.{bins_law};
+    ghost use Rattle.dp_rowwise.specs.BinsProof.{bins_law};
 
     ghost mapping = { λ t. bins_mapping t.edges.items t.lo t.hi t.size };
 

@@ -38,7 +38,7 @@ impl Cast {
 
 impl Transformation for Cast {
     ghost use Rattle.dp_rowwise.specs.Cast.{cast_mapping};
-    ghost use Rattle.dp_rowwise.specs.CastLaw.{cast_law};
+    ghost use Rattle.dp_rowwise.specs.CastProof.{cast_law};
 
     ghost mapping = { λ _. cast_mapping };
 

@@ -54,7 +54,7 @@ impl Categories {
 
 impl Transformation for Categories {
     ghost use Rattle.dp_rowwise.specs.Categories.{categories_mapping};
-    ghost use Rattle.dp_rowwise.specs.CategoriesLaw.{categories_law};
+    ghost use Rattle.dp_rowwise.specs.CategoriesProof.{categories_law};
 
     ghost mapping = { λ t. categories_mapping t.table };
 

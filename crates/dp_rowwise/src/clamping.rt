@@ -60,7 +60,7 @@ impl Clamp {
 
 impl Transformation for Clamp {
     ghost use Rattle.dp_rowwise.specs.Clamp.{clamp_mapping};
-    ghost use Rattle.dp_rowwise.specs.ClampLaw.{clamp_law};
+    ghost use Rattle.dp_rowwise.specs.ClampProof.{clamp_law};
 
     ghost mapping = { λ t. clamp_mapping t.lo t.hi t.from_lo t.from_hi t.size };
 

@@ -39,7 +39,7 @@ impl DropNone {
 
 impl Transformation for DropNone {
     ghost use Rattle.dp_rowwise.specs.DropNone.{drop_none_mapping};
-    ghost use Rattle.dp_rowwise.specs.DropNoneLaw.{drop_none_law};
+    ghost use Rattle.dp_rowwise.specs.DropNoneProof.{drop_none_law};
 
     ghost mapping = { λ t. drop_none_mapping t.lo t.hi };
 

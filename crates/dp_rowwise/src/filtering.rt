@@ -58,7 +58,7 @@ impl Filter {
 
 impl Transformation for Filter {
     ghost use Rattle.dp_rowwise.specs.Filter.{filter_mapping};
-    ghost use Rattle.dp_rowwise.specs.FilterLaw.{filter_law};
+    ghost use Rattle.dp_rowwise.specs.FilterProof.{filter_law};
 
     ghost mapping = { λ t. filter_mapping t.column t.text.items t.columns t.metric };
 

@@ -44,7 +44,7 @@ impl Impute {
 
 impl Transformation for Impute {
     ghost use Rattle.dp_rowwise.specs.Impute.{impute_mapping};
-    ghost use Rattle.dp_rowwise.specs.ImputeLaw.{impute_law};
+    ghost use Rattle.dp_rowwise.specs.ImputeProof.{impute_law};
 
     ghost mapping = { λ t. impute_mapping t.value t.lo t.hi };
 

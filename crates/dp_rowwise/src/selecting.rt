@@ -45,7 +45,7 @@ impl Select {
 
 impl Transformation for Select {
     ghost use Rattle.dp_rowwise.specs.Select.{select_mapping};
-    ghost use Rattle.dp_rowwise.specs.SelectLaw.{select_law};
+    ghost use Rattle.dp_rowwise.specs.SelectProof.{select_law};
 
     ghost mapping = { λ t. select_mapping t.column t.columns };
 

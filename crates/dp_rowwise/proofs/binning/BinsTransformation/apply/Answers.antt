@@ -2,7 +2,7 @@ use Rattle.std.proofs.Common.{◌≡◌, ℤ, List, map, ap, ◌∙◌}
 use Rattle.dp_domain.specs.declared.values.Value.TheVariants as value
 use Rattle.dp_law.proofs.Landing.{lands_at}
 use Rattle.dp_rowwise.specs.Bins.{bin, bins_mapping, bins_value}
-use Rattle.dp_rowwise.specs.BinsLaw.{bins_law}
+use Rattle.dp_rowwise.specs.BinsProof.{bins_law}
 use Rattle.dp_rowwise.proofs.binning.BinsTransformation.apply.Goals as goal
 
 pub returns-clause-within : goal.returns-clause-within

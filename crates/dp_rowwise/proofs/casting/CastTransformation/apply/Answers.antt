@@ -2,7 +2,7 @@ use Rattle.std.proofs.Common.{◌≡◌, map, ap, ◌∙◌}
 use Rattle.dp_domain.specs.declared.values.Value.TheVariants as value
 use Rattle.dp_law.proofs.Landing.{lands_at}
 use Rattle.dp_rowwise.specs.Cast.{cast, cast_mapping, cast_value}
-use Rattle.dp_rowwise.specs.CastLaw.{cast_law}
+use Rattle.dp_rowwise.specs.CastProof.{cast_law}
 use Rattle.dp_rowwise.proofs.casting.CastTransformation.apply.Goals as goal
 
 pub returns-clause-within : goal.returns-clause-within

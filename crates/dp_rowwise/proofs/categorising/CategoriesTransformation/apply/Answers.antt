@@ -2,7 +2,7 @@ use Rattle.std.proofs.Common.{◌≡◌, map, ap, ◌∙◌}
 use Rattle.dp_domain.specs.declared.values.Value.TheVariants as value
 use Rattle.dp_law.proofs.Landing.{lands_at}
 use Rattle.dp_rowwise.specs.Categories.{place_in, categories_mapping, categories_value}
-use Rattle.dp_rowwise.specs.CategoriesLaw.{categories_law}
+use Rattle.dp_rowwise.specs.CategoriesProof.{categories_law}
 use Rattle.dp_rowwise.proofs.categorising.CategoriesTransformation.apply.Goals as goal
 
 pub returns-clause-within : goal.returns-clause-within

@@ -2,7 +2,7 @@ use Rattle.std.proofs.Common.{◌≡◌, map, ap, ◌∙◌}
 use Rattle.dp_domain.specs.declared.values.Value.TheVariants as value
 use Rattle.dp_law.proofs.Landing.{lands_at}
 use Rattle.dp_rowwise.specs.Clamp.{clamp_mapping, clamp_value, clamped}
-use Rattle.dp_rowwise.specs.ClampLaw.{clamp_law}
+use Rattle.dp_rowwise.specs.ClampProof.{clamp_law}
 use Rattle.dp_rowwise.proofs.clamping.ClampTransformation.apply.Goals as goal
 
 pub returns-clause-within : goal.returns-clause-within

@@ -3,7 +3,7 @@ use Rattle.std.specs.Prelude.{filter_map}
 use Rattle.dp_domain.specs.declared.values.Value.TheVariants as value
 use Rattle.dp_law.proofs.Landing.{lands_at}
 use Rattle.dp_rowwise.specs.DropNone.{drop_none_mapping, drop_none_value}
-use Rattle.dp_rowwise.specs.DropNoneLaw.{drop_none_law}
+use Rattle.dp_rowwise.specs.DropNoneProof.{drop_none_law}
 use Rattle.dp_rowwise.proofs.dropping.DropNoneTransformation.apply.Goals as goal
 
 pub returns-clause-within : goal.returns-clause-within

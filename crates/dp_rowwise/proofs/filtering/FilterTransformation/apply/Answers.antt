@@ -5,7 +5,7 @@ use Rattle.dp_domain.specs.Distance.{text_eq}
 use Rattle.dp_law.proofs.Landing.{lands_at}
 use Rattle.dp_domain.specs.Users.{cell}
 use Rattle.dp_rowwise.specs.Filter.{filter_mapping, filter_value}
-use Rattle.dp_rowwise.specs.FilterLaw.{filter_law}
+use Rattle.dp_rowwise.specs.FilterProof.{filter_law}
 use Rattle.dp_rowwise.proofs.filtering.FilterTransformation.apply.Goals as goal
 
 pub returns-clause-within : goal.returns-clause-within

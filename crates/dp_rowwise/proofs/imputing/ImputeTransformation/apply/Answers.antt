@@ -3,7 +3,7 @@ use Rattle.std.specs.Prelude.{unwrap_or}
 use Rattle.dp_domain.specs.declared.values.Value.TheVariants as value
 use Rattle.dp_law.proofs.Landing.{lands_at}
 use Rattle.dp_rowwise.specs.Impute.{impute_mapping, impute_value}
-use Rattle.dp_rowwise.specs.ImputeLaw.{impute_law}
+use Rattle.dp_rowwise.specs.ImputeProof.{impute_law}
 use Rattle.dp_rowwise.proofs.imputing.ImputeTransformation.apply.Goals as goal
 
 pub returns-clause-within : goal.returns-clause-within
