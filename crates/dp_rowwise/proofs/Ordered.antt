@@ -73,8 +73,8 @@ same-ranks column rows i j h =
     let y = cell column (record_at rows j) in
     let tied = is-equal (text_cmp x y) (sym (texts_ties x y) ∙ h) in
     before-is rows i j ∙ sym
-        (ap (λ (o : Ordering). is_lt
-        (ordering_then (ordering_then o (record_cmp (record_at rows i) (record_at rows j))) (nat_cmp i j))) tied)
+    (ap (λ (o : Ordering). is_lt
+    (ordering_then (ordering_then o (record_cmp (record_at rows i) (record_at rows j))) (nat_cmp i j))) tied)
 
 test-late : (column : ℕ) (rows : Records) (i j : ℕ) → is_lt (place_cmp column rows i j) ≡ false
     → (same_person column rows i j && ranks_before rows i j) ≡ false
@@ -102,7 +102,7 @@ module _ (column : ℕ) (rows : Records) (ordered : List ℕ) (all : IsPermutati
       let i = get_or ordered b 0 in
       let j = get_or ordered a 0 in
       not-before_by (text_cmp (cell column (record_at rows i)) (cell column (record_at rows j)))
-          (record_cmp (record_at rows i) (record_at rows j)) (nat_cmp i j) (not-before a b h k)
+      (record_cmp (record_at rows i) (record_at rows j)) (nat_cmp i j) (not-before a b h k)
 
   -- between two places of a person stand only places of that person
   between : (a b c : ℕ) → a ≤ b → b ≤ c → c < length ordered → same_person column rows (get_or ordered a 0) (get_or ordered c 0) ≡ true
@@ -135,7 +135,7 @@ module _ (column : ℕ) (rows : Records) (ordered : List ℕ) (all : IsPermutati
       let i = get_or ordered b 0 in
       let j = get_or ordered a 0 in
       greater_by (place_cmp column rows i j) (place_cmp column rows j i) ((place_cmp-total column rows).antisymm j i)
-          (not-before a b (omega arith) k)
+      (not-before a b (omega arith) k)
       (not-tied (person_cmp column rows i j) i j (apart-places a b h k))
 
   -- the rank of a place is the number of its person's places before it
@@ -153,12 +153,12 @@ module _ (column : ℕ) (rows : Records) (ordered : List ℕ) (all : IsPermutati
       let later : All (λ j. test j ≡ false) (drop index ordered) = λ k d m.
       let same = get_or_default (drop index ordered) k d 0 m in
       ap test (same ∙ get_or-drop index ordered k 0)
-          ∙ test-late column rows (get_or ordered (index + k) 0) x (not-before index (index + k) (omega arith) (omega arith)) in
+      ∙ test-late column rows (get_or ordered (index + k) 0) x (not-before index (index + k) (omega arith) (omega arith)) in
       let earlier : All (λ j. test j ≡ same_person column rows j x) (take index ordered) = λ k d m.
       let under : k < index = omega arith in
       let same = get_or_default (take index ordered) k d 0 m ∙ get_or-take index ordered k 0 under in
       ap test same ∙ test-early column rows (get_or ordered k 0) x (strictly-before k index under within)
-          ∙ ap (λ (j : ℕ). same_person column rows j x) (sym same) in
+      ∙ ap (λ (j : ℕ). same_person column rows j x) (sym same) in
       let none = count_by-none test (drop index ordered) later in
       let some = count_by-same-all test (λ j. same_person column rows j x) (take index ordered) earlier in
       omega arith
@@ -166,14 +166,14 @@ module _ (column : ℕ) (rows : Records) (ordered : List ℕ) (all : IsPermutati
   -- the test of the loop
   pub early-is : (index most : ℕ) → 1 ≤ most → index < length ordered
       → (nat_lt index most || not (same_person column rows (get_or ordered (index - most) 0) (get_or ordered index 0))) ≡ nat_lt
-          (rank column rows (get_or ordered index 0)) most
+      (rank column rows (get_or ordered index 0)) most
   early-is index most some within =
       let x = get_or ordered index 0 in
       let mine = λ (j : ℕ). same_person column rows j x in
       let short = length-take index ordered in
       let long : length (take index ordered) ≡ index = omega arith in
       let closed : (a b : ℕ) → a ≤ b → b < length (take index ordered) → mine (get_or (take index ordered) a 0) ≡ true
-          → mine (get_or (take index ordered) b 0) ≡ true = λ a b h k s.
+      → mine (get_or (take index ordered) b 0) ≡ true = λ a b h k s.
       ap mine (get_or-take index ordered b 0 (omega arith))
       ∙ between a b index h (omega arith) within (ap mine (sym (get_or-take index ordered a 0 (omega arith))) ∙ s) in
       let whole = count_by-end mine (take index ordered) most some closed in
@@ -188,7 +188,7 @@ module _ (column : ℕ) (rows : Records) (ordered : List ℕ) (all : IsPermutati
             let first : nat_lt (length (take index ordered)) most ≡ false = ap (λ (n : ℕ). nat_lt n most) long ∙ h in
             let by_place = rw first at whole in
             let at = ap (λ (n : ℕ). get_or (take index ordered) (n - most) 0) long
-                ∙ get_or-take index ordered (index - most) 0 (omega arith) in
+            ∙ get_or-take index ordered (index - most) 0 (omega arith) in
             rw h (sym (ap (λ (j : ℕ). not (mine j)) at) ∙ by_place ∙ ranked)
       ]
 
@@ -200,7 +200,7 @@ module _ (column : ℕ) (rows : Records) (ordered : List ℕ) (all : IsPermutati
 
   pub early-later : (index most : ℕ) → 1 ≤ most → index < length ordered → most ≤ index
       → not (same_person column rows (get_or ordered (index - most) 0) (get_or ordered index 0)) ≡ nat_lt
-          (rank column rows (get_or ordered index 0)) most
+      (rank column rows (get_or ordered index 0)) most
   early-later index most some within over =
       let h : nat_lt index most ≡ false = grind (arith, nat_tests) in
       rw h at (early-is index most some within)

@@ -21,19 +21,24 @@ use Rattle.dp_rowwise.specs.Filter.{filter_value, filter_mapping}
 filter_lands : (column : ℕ) (text : List ℕ) (columns : ℕ) (v : Value) → Has (domain.Rows columns) v
     → Has (domain.Rows columns) (filter_value column text v)
 filter_lands column text columns (value.Rows rows) has =
-    let kept = λ (cells : List (List ℕ)). text_eq (cell column cells) text in
-    (omega (arith, has.0, length-filter kept rows, count_by-le-length kept rows),
-        All-filter kept (λ cells. length cells ≡ columns) rows has.1)
+    let kept = λ (cells : List (List ℕ)). text_eq (cell column cells) text in (
+      omega (arith, has.0, length-filter kept rows, count_by-le-length kept rows),
+      All-filter kept (λ cells. length cells ≡ columns) rows has.1,
+    )
 filter_lands column text columns v has = absurd has
 
 rows_stable : (metric : Metric) (column : ℕ) (text : List ℕ) (d e : ℕ) (xs ys : List (List (List ℕ))) → d ≡ e
     → Within metric d (value.Rows xs) (value.Rows ys)
-        → Within metric e (filter_value column text (value.Rows xs)) (filter_value column text (value.Rows ys))
+    → Within metric e (filter_value column text (value.Rows xs)) (filter_value column text (value.Rows ys))
 rows_stable metrics.Symmetric column text d e xs ys same near =
     omega (arith, near, diff-filter record_eq record_eq-decides (λ cells. text_eq (cell column cells) text) xs ys)
 rows_stable (metrics.Users user) column text d e xs ys same near =
-    omega (arith, near, parts-filter (cell user) text_eq text_eq-decides record_eq record_eq-decides
-        (λ cells. text_eq (cell column cells) text) xs ys)
+    omega (
+      arith,
+      near,
+      parts-filter (cell user) text_eq text_eq-decides record_eq record_eq-decides
+          (λ cells. text_eq (cell column cells) text) xs ys,
+    )
 rows_stable metric column text d e xs ys same near = absurd near
 
 filter_stable : (metric : Metric) (column : ℕ) (text : List ℕ) (columns d e : ℕ) (v w : Value) → d ≡ e

@@ -64,7 +64,7 @@ place_order-total rows = then_total (on_total (record_at rows) record_cmp-total)
 pub before-is : (rows : Records) (j i : ℕ) → ranks_before rows j i ≡ is_lt (place_order rows j i)
 before-is rows j i =
     ap (λ (b : Bool). is_lt (record_cmp (record_at rows j) (record_at rows i)) || (b && nat_lt j i))
-        (record-ties (record_at rows j) (record_at rows i))
+    (record-ties (record_at rows j) (record_at rows i))
     ∙ before_by (record_cmp (record_at rows j) (record_at rows i)) j i
 
 is-less : (o : Ordering) → is_lt o ≡ true → o ≡ Less
@@ -92,7 +92,7 @@ ranks-one_way : (rows : Records) (i j : ℕ) → i < j → ranks_before rows i j
 ranks-one_way rows i j h k =
     before-is rows j i
     ∙ one_way-by (record_cmp (record_at rows i) (record_at rows j))
-        (record_cmp (record_at rows j) (record_at rows i)) i j h
+    (record_cmp (record_at rows j) (record_at rows i)) i j h
     (record_cmp-total.antisymm (record_at rows j) (record_at rows i)) (sym (before-is rows i j) ∙ k)
 
 count-parts_by : (a l e f t : Bool) → e ≡ f → (e ≡ true → a ≡ true) → (e ≡ true → l ≡ false)
@@ -111,20 +111,20 @@ part-at : (column : ℕ) (x r : List (List ℕ)) (early : Bool) →
     ≡ one (text_eq (cell column x) (cell column r) && is_lt (record_cmp x r)) + one (record_eq r x && early)
 part-at column x r early =
     count-parts_by (text_eq (cell column x) (cell column r)) (is_lt (record_cmp x r)) (record_eq x r)
-        (record_eq r x) early (same-symmetric record_eq record_eq-decides x r)
+    (record_eq r x) early (same-symmetric record_eq record_eq-decides x r)
     (λ e. (text_eq-decides (cell column x) (cell column r)).1 (ap (cell column) ((record_eq-decides x r).0 e)))
     (λ e. let same = (record_eq-decides x r).0 e in rw same (ap is_lt (tied_itself record_cmp-total r)))
 
 -- the rank of a place where r stands: the records of r's person that are less, and the places before that have r
 rank-parts : (column : ℕ) (rows : Records) (r : List (List ℕ)) (i : ℕ) → record_at rows i ≡ r →
     rank column rows i ≡ less_of column rows r + count_by (λ j. record_eq r (record_at rows j))
-        (range_with_len 0 (min i (length rows)))
+    (range_with_len 0 (min i (length rows)))
 unfolding rank
 rank-parts column rows r i h =
     let less = λ (x : List (List ℕ)). text_eq (cell column x) (cell column r) && is_lt (record_cmp x r) in
     let equal = λ (j : ℕ). record_eq r (record_at rows j) in
     let split = sum_by-same (λ j. one (same_person column rows j i && ranks_before rows j i))
-        (λ j. one (less (record_at rows j)) + one (equal j && nat_lt j i)) (places rows)
+    (λ j. one (less (record_at rows j)) + one (equal j && nat_lt j i)) (places rows)
     (λ j. rw h (part-at column (record_at rows j) r (nat_lt j i))) in
     let both = sum_by-add (λ j. one (less (record_at rows j))) (λ j. one (equal j && nat_lt j i)) (places rows) in
     let by_record = count_by-map less (record_at rows) (places rows) in
@@ -151,30 +151,30 @@ occurrences-truncated column most rows r =
     let keep = λ (i : ℕ). nat_lt (rank column rows i) most in
     let equal = λ (i : ℕ). record_eq r (record_at rows i) in
     let few = λ (i : ℕ). nat_lt (count_by equal (range_with_len 0 (min i (length rows))))
-        (most - less_of column rows r) in
+    (most - less_of column rows r) in
     let by_place = count_by-map (record_eq r) (record_at rows) (filter keep (places rows)) in
     let both = count_by-filter keep equal (places rows) in
     let turned = count_by-same (λ i. keep i && equal i) (λ i. equal i && few i) (places rows)
-        (λ i. kept-at (keep i) (equal i) (few i) (λ e.
+    (λ i. kept-at (keep i) (equal i) (few i) (λ e.
     ap (λ (n : ℕ). nat_lt n most) (rank-parts column rows r i (sym ((record_eq-decides r (record_at rows i)).0 e)))
     ∙ lt-shift (less_of column rows r) (count_by equal (range_with_len 0 (min i (length rows)))) most)) in
     let first = count_by-first equal (most - less_of column rows r) (length rows) (length rows) (omega arith) in
     let all = sym (count_by-map (record_eq r) (record_at rows) (places rows))
-        ∙ ap (count_by (record_eq r)) (map-places rows []) in
+    ∙ ap (count_by (record_eq r)) (map-places rows []) in
     by_place ∙ both ∙ turned ∙ first ∙ ap (λ (n : ℕ). min n (most - less_of column rows r)) all
 
 -- where the groups of a person are the same in another order, so are the records that stay
 stays-same : (column most : ℕ) (xs ys : Records) (person : List ℕ)
     → diff record_eq (group text_eq (cell column) person xs) (group text_eq (cell column) person ys) ≡ 0
     → diff record_eq (group text_eq (cell column) person (truncated column most xs))
-        (group text_eq (cell column) person (truncated column most ys)) ≡ 0
+    (group text_eq (cell column) person (truncated column most ys)) ≡ 0
 stays-same column most xs ys person none =
     let mine = λ (x : List (List ℕ)). text_eq (cell column x) person in
     let order = diff-none record_eq record_eq-decides (filter mine xs) (filter mine ys) none in
     diff-order record_eq record_eq-decides (filter mine (truncated column most xs))
-        (filter mine (truncated column most ys))
+    (filter mine (truncated column most ys))
     (permutation-from record_eq record_eq-decides (filter mine (truncated column most xs))
-        (filter mine (truncated column most ys)) (λ r.
+    (filter mine (truncated column most ys)) (λ r.
     let left = occurrences-filter record_eq record_eq-decides mine (truncated column most xs) r in
     let right = occurrences-filter record_eq record_eq-decides mine (truncated column most ys) r in
     elim (cases_Bool (mine r)) [
@@ -184,17 +184,17 @@ stays-same column most xs ys person none =
           let right_all = rw h at (occurrences-filter record_eq record_eq-decides mine ys r) in
           let often = occurrences-permutation record_eq (filter mine xs) (filter mine ys) r order in
           let less = sum_by-IsPermutation (λ x. one (is_lt (record_cmp x r))) (filter mine xs)
-              (filter mine ys) order in
+          (filter mine ys) order in
           let left_less : less_of column xs r ≡ count_by (λ x. is_lt (record_cmp x r)) (filter mine xs) =
-              ap (λ (k : List ℕ). count_by (λ x. is_lt (record_cmp x r)) (group text_eq (cell column) k xs)) named in
+          ap (λ (k : List ℕ). count_by (λ x. is_lt (record_cmp x r)) (group text_eq (cell column) k xs)) named in
           let right_less : less_of column ys r ≡ count_by (λ x. is_lt (record_cmp x r)) (filter mine ys) =
-              ap (λ (k : List ℕ). count_by (λ x. is_lt (record_cmp x r)) (group text_eq (cell column) k ys)) named in
+          ap (λ (k : List ℕ). count_by (λ x. is_lt (record_cmp x r)) (group text_eq (cell column) k ys)) named in
           let left_stay = occurrences-truncated column most xs r in
           let right_stay = occurrences-truncated column most ys r in
           let left_now = rw h at left in
           let right_now = rw h at right in
           let same_often : occurrences record_eq xs r ≡ occurrences record_eq ys r = sym left_all ∙ sym often
-              ∙ right_all in
+          ∙ right_all in
           let same_less : less_of column xs r ≡ less_of column ys r = left_less ∙ sym less ∙ sym right_less in
           left_now ∙ left_stay ∙ rw (same_often, same_less) (sym right_stay) ∙ sym right_now
       | inr h ↦ (rw h at left) ∙ sym (rw h at right)
@@ -210,22 +210,22 @@ same-text x y z h k = (text_eq-decides x y).1 ((text_eq-decides x z).0 h ∙ sym
 
 few-from : (column most : ℕ) (rows : Records) (person : List ℕ) (kept : List ℕ) (l : Last (ranks_before rows) kept)
     → All (λ i. text_eq (cell column (record_at rows i)) person ≡ true) kept
-        → All (λ i. nat_lt (rank column rows i) most ≡ true) kept
+    → All (λ i. nat_lt (rank column rows i) most ≡ true) kept
     → ((q : ℕ → Bool) → count_by q kept ≤ count_by q (places rows)) → length kept ≤ most
 unfolding rank
 few-from column most rows person kept l mine stay part =
     let test = λ (j : ℕ). same_person column rows j l.last && ranks_before rows j l.last in
     let all_mine = All-permutation (λ i. text_eq (cell column (record_at rows i)) person ≡ true) kept
-        (l.last ∷ l.rest) l.is mine in
+    (l.last ∷ l.rest) l.is mine in
     let last_mine = All-head (λ i. text_eq (cell column (record_at rows i)) person ≡ true) l.last l.rest all_mine in
     let rest_mine = All-tail (λ i. text_eq (cell column (record_at rows i)) person ≡ true) l.last l.rest all_mine in
     let last_stays : nat_lt (rank column rows l.last) most ≡ true =
     All-head (λ i. nat_lt (rank column rows i) most ≡ true) l.last l.rest
-        (All-permutation (λ i. nat_lt (rank column rows i) most ≡ true) kept (l.last ∷ l.rest) l.is stay) in
+    (All-permutation (λ i. nat_lt (rank column rows i) most ≡ true) kept (l.last ∷ l.rest) l.is stay) in
     let passes : All (λ j. test j ≡ true) l.rest = λ k d m.
     both-true (same_person column rows (get_or l.rest k d) l.last) (ranks_before rows (get_or l.rest k d) l.last)
     (same-text (cell column (record_at rows (get_or l.rest k d))) (cell column (record_at rows l.last)) person
-        (rest_mine k d m) last_mine) (l.below k d m) in
+    (rest_mine k d m) last_mine) (l.below k d m) in
     let counted = count_by-all test l.rest passes in
     let whole = count_by-cons test l.last l.rest in
     let turned = sum_by-IsPermutation (λ j. one (test j)) kept (l.last ∷ l.rest) l.is in
@@ -236,12 +236,12 @@ few-from column most rows person kept l mine stay part =
 
 few-by : (column most : ℕ) (rows : Records) (person : List ℕ) (kept : List ℕ) → Rising kept
     → All (λ i. text_eq (cell column (record_at rows i)) person ≡ true) kept
-        → All (λ i. nat_lt (rank column rows i) most ≡ true) kept
+    → All (λ i. nat_lt (rank column rows i) most ≡ true) kept
     → ((q : ℕ → Bool) → count_by q kept ≤ count_by q (places rows)) → length kept ≤ most
 few-by column most rows person [] rising mine stay part = omega arith
 few-by column most rows person (x ∷ xs) rising mine stay part =
     few-from column most rows person (x ∷ xs)
-        (last-of (ranks_before rows) (ranks-one_way rows) (ranks-chain rows) x xs rising) mine stay part
+    (last-of (ranks_before rows) (ranks-one_way rows) (ranks-chain rows) x xs rising) mine stay part
 
 -- at most so many records of a person stay
 few-stay : (column most : ℕ) (rows : Records) (person : List ℕ)
@@ -256,11 +256,11 @@ few-stay column most rows person =
     let counted = length-filter (λ i. mine (record_at rows i)) kept in
     let few = few-by column most rows person (filter (λ i. mine (record_at rows i)) kept)
     (rising-filter (λ i. mine (record_at rows i)) kept
-        (rising-filter keep (places rows) (rising-range 0 (length rows))))
+    (rising-filter keep (places rows) (rising-range 0 (length rows))))
     (filter_passes (λ i. mine (record_at rows i)) kept)
     (All-filter (λ i. mine (record_at rows i)) (λ i. keep i ≡ true) kept (filter_passes keep (places rows)))
     (λ q. let one_less = count_by-filter-le (λ i. mine (record_at rows i)) q kept in let other_less =
-        count_by-filter-le keep q (places rows) in omega arith) in
+    count_by-filter-le keep q (places rows) in omega arith) in
     omega arith
 
 -- the records that stay of two lists are apart by at most twice so many for each person that differs
@@ -268,7 +268,7 @@ pub truncated-apart : (column most : ℕ) (xs ys : Records)
     → diff record_eq (truncated column most xs) (truncated column most ys) ≤ 2 * most * users_apart column xs ys
 truncated-apart column most xs ys =
     few-apart (cell column) text_eq text_eq-decides record_eq record_eq-decides most xs ys (truncated column most xs)
-        (truncated column most ys)
+    (truncated column most ys)
     (few-stay column most xs) (few-stay column most ys) (stays-same column most xs ys)
 
 places-all : (P : List (List ℕ) → Type 0) (rows : Records) → All P rows
@@ -276,7 +276,7 @@ places-all : (P : List (List ℕ) → Type 0) (rows : Records) → All P rows
 places-all P rows h = λ k d m.
     let short = length-range_with_len 0 (length rows) in
     let at : get_or (places rows) k d ≡ k = get_or-range_with_len 0 (length rows) k d (omega arith)
-        ∙ (let e : 0 + k ≡ k = omega arith in e) in
+    ∙ (let e : 0 + k ≡ k = omega arith in e) in
     subst (λ (i : ℕ). P (record_at rows i)) (sym at) (h k [] (omega arith))
 
 truncate_lands : (column most columns : ℕ) (v : Value) → Has (domain.Rows columns) v
@@ -291,14 +291,14 @@ truncate_lands column most columns (value.Rows rows) has =
       omega (arith, has.0),
       All-map (λ cells. length cells ≡ columns) (record_at rows) (filter keep (places rows))
           (All-filter keep (λ i. length (record_at rows i) ≡ columns) (places rows)
-              (places-all (λ cells. length cells ≡ columns) rows has.1)),
+          (places-all (λ cells. length cells ≡ columns) rows has.1)),
     )
 truncate_lands column most columns v has = absurd has
 
 truncate_stable : (column most columns d e : ℕ) (v w : Value) → 2 * most * d ≡ e → Has (domain.Rows columns) v
     → Has (domain.Rows columns) w
     → Within (metrics.Users column) d v w
-        → Within metrics.Symmetric e (truncate_value column most v) (truncate_value column most w)
+    → Within metrics.Symmetric e (truncate_value column most v) (truncate_value column most w)
 truncate_stable column most columns d e (value.Rows xs) (value.Rows ys) map_is has_v has_w near =
     let bound = truncated-apart column most xs ys in
     let times = mul-le-mul_left {m = users_apart column xs ys} {n = d} (2 * most) near in

@@ -1,29 +1,29 @@
 //! Row-by-row transformations: each gives for every element of a list at most one element, and so is stable at the
-//! distance itself.
+//! distance itself. Besides, `Truncate`, which keeps few records of each person, and so goes from persons to records.
 #![tactic(auto)]
 
-mod binning;
-mod casting;
-mod categorising;
-mod clamping;
-mod dropping;
-mod filtering;
-mod imputing;
+mod bins;
+mod cast;
+mod categories;
+mod clamp;
+mod drop_none;
+mod filter;
+mod impute;
 mod persons;
-mod selecting;
+mod select;
 mod tables;
-mod truncating;
+mod truncate;
 
-pub use binning::Bins;
-pub use casting::Cast;
-pub use categorising::Categories;
-pub use clamping::Clamp;
-pub use dropping::DropNone;
-pub use filtering::Filter;
-pub use imputing::Impute;
+pub use bins::Bins;
+pub use cast::Cast;
+pub use categories::Categories;
+pub use clamp::Clamp;
+pub use drop_none::DropNone;
+pub use filter::Filter;
+pub use impute::Impute;
 pub use persons::{Records, kept_places};
-pub use selecting::Select;
-pub use truncating::Truncate;
+pub use select::Select;
+pub use truncate::Truncate;
 
 #[cfg(test)]
 mod tests;
