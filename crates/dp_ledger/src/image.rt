@@ -1,0 +1,115 @@
+ghost use Rattle.std.specs.Prelude.{◌≡◌, ◌+◌, ◌<◌, ◌≤◌, length, option_map, IfSome, IsTrue};
+ghost use Rattle.std.specs.Int.{w32, w64};
+ghost use Rattle.dp_ledger.specs.Image.{number_at, entry_at, is_open, other, counted, greatest, current_of, is_of, ledger_total, current_slot, place_of, new_image};
+
+use crate::slot::Slot;
+use dp_num::Ratio;
+
+/// How many bytes an image has.
+pub(crate) const SIZE: usize = 26;
+
+/// The greatest total of a ledger.
+pub(crate) const MOST: u64 = 4_294_967_296;
+
+/// What a slot holds.
+#[derive(Clone, Copy, Debug)]
+pub(crate) struct Entry {
+    pub(crate) total: u64,
+    pub(crate) gate: u8,
+}
+
+impl Entry {
+    /// Whether the gate is open.
+    fn is_open(self) -> bool
+        ensures { result ≡ is_open self }
+    {
+        self.gate == 1
+    }
+
+    /// Its total, where it counts.
+    #[tactic(auto, unfolding(crate::specs::Image::counted))]
+    fn counted(self) -> Option<u64>
+        ensures { result ≡ counted self }
+    {
+        if self.is_open() && self.total <= MOST {
+            return Some(self.total);
+        }
+        None
+    }
+}
+
+/// What a ledger knows of its image.
+#[derive(Clone, Copy, Debug)]
+pub(crate) struct Reading {
+    pub(crate) total: u64,
+    pub(crate) current: Slot,
+    pub(crate) other_open: bool,
+}
+
+/// The number of four bytes, the lowest first.
+#[tactic(auto, unfolding(crate::specs::Image::number_at))]
+fn short_at(bytes: &[u8], at: usize) -> u32
+    requires { at + 4 ≤ length bytes.now }
+    ensures { result ≡ number_at w32 at bytes.now }
+{
+    let b = &bytes[at..at + 4];
+    u32::from_le_bytes([b[0], b[1], b[2], b[3]])
+}
+
+/// The number of eight bytes, the lowest first.
+#[tactic(auto, unfolding(crate::specs::Image::number_at))]
+fn long_at(bytes: &[u8], at: usize) -> u64
+    requires { at + 8 ≤ length bytes.now }
+    ensures { result ≡ number_at w64 at bytes.now }
+{
+    let b = &bytes[at..at + 8];
+    u64::from_le_bytes([b[0], b[1], b[2], b[3], b[4], b[5], b[6], b[7]])
+}
+
+/// What the bytes have in a slot.
+#[tactic(auto, unfolding(crate::specs::Image::entry_at))]
+fn entry_at(slot: Slot, bytes: &[u8]) -> Entry
+    requires { length bytes.now ≡ 26 }
+    ensures { result ≡ entry_at slot bytes.now }
+{
+    let place = slot.place();
+    Entry {
+        total: long_at(bytes, place),
+        gate: bytes[place + 8],
+    }
+}
+
+/// Whether the bytes are as many as an image has, and begin with the numbers of the ratio.
+#[tactic(auto, unfolding(crate::specs::Image::is_of))]
+fn is_of(ratio: &Ratio, bytes: &[u8]) -> bool
+    ensures { result ≡ is_of ratio.now bytes.now }
+{
+    bytes.len() == SIZE
+        && u64::from(short_at(bytes, 0)) == ratio.p
+        && u64::from(short_at(bytes, 4)) == ratio.q
+}
+
+/// What a ledger knows of two slots, where one counts.
+fn read_slots(first: Entry, second: Entry) -> Option<Reading>
+    ensures total { option_map (λ r. r.total) result ≡ greatest (counted first) (counted second) }
+    ensures current { IfSome result (λ r. r.current ≡ current_of (counted first) (counted second)) }
+    ensures first { IfSome result (λ r. r.current ≡ Slot.First → r.other_open ≡ is_open second) }
+    ensures second { IfSome result (λ r. r.current ≡ Slot.Second → r.other_open ≡ is_open first) }
+{
+    let (total, current) = match (first.counted(), second.counted()) {
+        (None, None) => return None,
+        (Some(total), None) => (total, Slot::First),
+        (None, Some(total)) => (total, Slot::Second),
+        (Some(a), Some(b)) if a < b => (b, Slot::Second),
+        (Some(a), Some(_)) => (a, Slot::First),
+    };
+    let other_open = match current {
+        Slot::First => second.is_open(),
+        Slot::Second => first.is_open(),
+    };
+    Some(Reading {
+        total,
+        current,
+        other_open,
+    })
+}

@@ -1,0 +1,21 @@
+ghost use Rattle.std.specs.Prelude.{◌≡◌, ◌<◌, length, option_map, OnOk, IsSome};
+ghost use Rattle.std.specs.Option.{ForSome};
+ghost use Rattle.dp_count.specs.Faults.{HasCause};
+ghost use Rattle.dp_ledger.specs.Disk.{put_at, LeavesTorn, Only, LeavesOnly};
+
+use crate::Disk;
+use dp_count::Failed;
+
+/// Writes bytes and syncs. After `Ok` a crash leaves what a read gives.
+pub(crate) fn settle<B: Disk>(disk: &mut B, at: u64, bytes: &[u8]) -> Result<(), Failed>
+    requires { 0 < length bytes.now }
+    ensures reads { OnOk result (B.reads disk.new ≡ option_map (put_at at bytes.now) (B.reads disk.old)) }
+    ensures alone { OnOk result (ForSome (B.reads disk.new) (λ now. Only now (B.may_leave disk.new))) }
+    ensures any_moment { LeavesOnly B.moment B.left_since disk.old disk.new
+        (LeavesTorn (B.may_leave disk.old) at (length bytes.now)) }
+    ensures telling { IsSome (B.reads disk.old) → IsSome (B.reads disk.new) }
+    ensures cause { HasCause (B.faults disk.old) (B.faults disk.new) result }
+{
+    disk.write_at(at, bytes)?;
+    disk.sync()
+}
