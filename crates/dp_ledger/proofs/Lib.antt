@@ -1,1 +1,6 @@
+mod Bytes
+mod Entries
 mod Moments
+mod Rows
+mod StepLaws
+mod Totals

@@ -1,2 +1,4 @@
 pub mod Disk
 pub mod Image
+pub mod Ledger
+pub mod Steps

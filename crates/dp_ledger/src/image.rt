@@ -113,3 +113,28 @@ fn read_slots(first: Entry, second: Entry) -> Option<Reading>
         other_open,
     })
 }
+
+/// What a ledger of the ratio knows of the bytes; none where they are no ledger of it.
+#[tactic(auto, unfolding(crate::specs::Image::ledger_total, crate::specs::Image::current_slot))]
+pub(crate) fn read_image(ratio: &Ratio, bytes: &[u8]) -> Option<Reading>
+    ensures total { option_map (λ r. r.total) result ≡ ledger_total ratio.now bytes.now }
+    ensures current { IfSome result (λ r. r.current ≡ current_slot bytes.now) }
+    ensures other_gate { IfSome result (λ r. r.other_open ≡ is_open (entry_at (other r.current) bytes.now)) }
+{
+    if !is_of(ratio, bytes) {
+        return None;
+    }
+    read_slots(entry_at(Slot::First, bytes), entry_at(Slot::Second, bytes))
+}
+
+/// The bytes of a new ledger of the ratio: the total 0 with an open gate, and an empty slot.
+#[tactic(auto, unfolding(crate::specs::Image::new_image))]
+pub(crate) fn new_image(ratio: &Ratio) -> [u8; SIZE]
+    ensures { result ≡ new_image ratio.now }
+{
+    let [p0, p1, p2, p3] = (ratio.p as u32).to_le_bytes();
+    let [q0, q1, q2, q3] = (ratio.q as u32).to_le_bytes();
+    [
+        p0, p1, p2, p3, q0, q1, q2, q3, 0, 0, 0, 0, 0, 0, 0, 0, 1, 0, 0, 0, 0, 0, 0, 0, 0, 0,
+    ]
+}

@@ -4,8 +4,13 @@
 #![tactic(auto)]
 
 mod disk;
+mod faults;
 mod image;
+mod ledger;
 mod settle;
 mod slot;
+mod steps;
 
 pub use disk::Disk;
+pub use faults::{ChargeFault, CreateFault, OpenLedgerFault};
+pub use ledger::Ledger;

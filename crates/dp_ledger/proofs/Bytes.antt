@@ -1,0 +1,87 @@
+-- What a torn write and a whole one leave of a content's bytes.
+use Rattle.std.proofs.Common.{◌≡◌, ℕ, ◌+◌, ◌-◌, ◌<◌, ◌≤◌, min, max, List, [], ◌∷◌, ◌++◌, length, get_or, take, drop, replicate, refl, sym, ◌∙◌, ap, subst, arith, append_assoc, length-append, length-take, length-drop}
+use Rattle.std.proofs.lemmas.List.{length-replicate, take-take, drop-take, drop-drop, get_or-take, get_or-drop, take_at, drop_at, take_min, get_or_at}
+use Rattle.dp_ledger.specs.Disk.{put_at, Torn}
+
+-- a range inside the content: the bytes outside of it stay
+module _ (at n : ℕ) (was now : List ℕ) (inside : at + n ≤ length was) (torn : Torn at n was now) where
+  pub same_length : length now ≡ length was
+  same_length = omega (arith, torn.no_shorter, torn.no_longer)
+
+  front : take at now ≡ take at was
+  front =
+      let e : min at (length was) ≡ at = omega arith in
+      subst (λ (k : ℕ). take k now ≡ take k was) e torn.before
+
+  pub below : (f m : ℕ) → f + m ≤ at → take m (drop f now) ≡ take m (drop f was)
+  below f m le =
+      sym (drop-take f m now)
+      ∙ ap (λ (l : List ℕ). drop f l) (sym (take-take (f + m) at now le) ∙ ap (λ (l : List ℕ). take (f + m) l) front ∙ take-take (f + m) at was le)
+      ∙ drop-take f m was
+
+  pub above : (f : ℕ) → at + n ≤ f → drop f now ≡ drop f was
+  above f le =
+      let e : at + n + (f - (at + n)) ≡ f = omega arith in
+      subst (λ (k : ℕ). drop k now ≡ drop k was) e
+          (sym (drop-drop (f - (at + n)) (at + n) now) ∙ ap (λ (l : List ℕ). drop (f - (at + n)) l) torn.after ∙ drop-drop (f - (at + n)) (at + n) was)
+
+  pub byte_below : (i : ℕ) → i < at → get_or now i 0 ≡ get_or was i 0
+  byte_below i lt = sym (get_or-take at now i 0 lt) ∙ ap (λ (l : List ℕ). get_or l i 0) front ∙ get_or-take at was i 0 lt
+
+  pub byte_above : (i : ℕ) → at + n ≤ i → get_or now i 0 ≡ get_or was i 0
+  byte_above i le =
+      let e : at + n + (i - (at + n)) ≡ i = omega arith in
+      subst (λ (k : ℕ). get_or now k 0 ≡ get_or was k 0) e
+          (sym (get_or-drop (at + n) now (i - (at + n)) 0) ∙ ap (λ (l : List ℕ). get_or l (i - (at + n)) 0) torn.after ∙ get_or-drop (at + n) was (i - (at + n)) 0)
+
+-- bytes that are put at a place
+module _ (at : ℕ) (bytes was : List ℕ) where
+  head : List ℕ
+  head = take at was ++ replicate (at - length was) 0
+
+  rest : List ℕ
+  rest = drop (at + length bytes) was
+
+  length-head : length head ≡ at
+  unfolding head
+  length-head = omega (arith, length-append (take at was) (replicate (at - length was) 0), length-take at was, length-replicate {A = ℕ} (at - length was) 0)
+
+  split : put_at at bytes was ≡ head ++ (bytes ++ rest)
+  unfolding put_at head rest
+  split = append_assoc (take at was ++ replicate (at - length was) 0) bytes (drop (at + length bytes) was)
+
+  split_after : put_at at bytes was ≡ (head ++ bytes) ++ rest
+  unfolding put_at head rest
+  split_after = refl
+
+  split_front : put_at at bytes was ≡ take at was ++ (replicate (at - length was) 0 ++ (bytes ++ rest))
+  unfolding head
+  split_front = split ∙ append_assoc (take at was) (replicate (at - length was) 0) (bytes ++ rest)
+
+  pub length-put_at : length (put_at at bytes was) ≡ max (length was) (at + length bytes)
+  unfolding rest
+  length-put_at = omega (arith, ap length split_after, length-append (head ++ bytes) rest, length-append head bytes, length-head, length-drop (at + length bytes) was)
+
+  -- they are one way in which that range may be torn
+  pub put_torn : Torn at (length bytes) was (put_at at bytes was)
+  unfolding rest
+  put_torn = record {
+    before =
+        ap (λ (l : List ℕ). take (min at (length was)) l) split_front
+        ∙ take_at (take at was) _ (min at (length was)) (length-take at was)
+        ∙ sym (take_min at was);
+    after =
+        ap (λ (l : List ℕ). drop (at + length bytes) l) split_after
+        ∙ drop_at (head ++ bytes) rest (at + length bytes) (omega (arith, length-append head bytes, length-head));
+    no_shorter = omega (arith, length-put_at);
+    no_longer = omega (arith, length-put_at);
+  }
+
+  pub put_bytes : take (length bytes) (drop at (put_at at bytes was)) ≡ bytes
+  put_bytes =
+      ap (λ (l : List ℕ). take (length bytes) (drop at l)) split
+      ∙ ap (λ (l : List ℕ). take (length bytes) l) (drop_at head (bytes ++ rest) at length-head)
+      ∙ take_at bytes rest (length bytes) refl
+
+pub put_byte : (at byte : ℕ) (was : List ℕ) → get_or (put_at at (byte ∷ []) was) at 0 ≡ byte
+put_byte at byte was = ap (λ (l : List ℕ). get_or l at 0) (split at (byte ∷ []) was) ∙ get_or_at (head at (byte ∷ []) was) byte (rest at (byte ∷ []) was) 0 at (length-head at (byte ∷ []) was)

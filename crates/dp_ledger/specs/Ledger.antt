@@ -1,0 +1,42 @@
+-- What a ledger is, and when it stands on a disk.
+use Rattle.std.specs.Prelude.{◌≡◌, ◌⊎◌, ◌+◌, ℕ, Bool, false, List, Option, Some}
+use Rattle.std.specs.Option.{ForSome}
+use Rattle.dp_num.specs.declared.ratio.Ratio.{Ratio}
+use Rattle.dp_ledger.specs.declared.ledger.Ledger.{Ledger}
+use Rattle.dp_ledger.specs.Disk.{Only}
+use Rattle.dp_ledger.specs.Image.{ledger_total, current_slot, entry_at, is_open, other}
+
+-- the total, in units
+abbrev pub total_of : Ledger → ℕ
+total_of ledger = ledger.total
+
+abbrev pub ratio_of : Ledger → Ratio
+ratio_of ledger = ledger.ratio
+
+-- whether a charge failed
+abbrev pub is_closed : Ledger → Bool
+is_closed ledger = ledger.closed
+
+-- the content is an image of the ledger's ratio, total and current slot, and the other gate is as the ledger says
+pub record Shows (ledger : Ledger) (content : List ℕ) : Type 0 where
+  pub total : ledger_total ledger.ratio content ≡ Some ledger.total
+  pub current : current_slot content ≡ ledger.current
+  pub other_gate : is_open (entry_at (other ledger.current) content) ≡ ledger.other_open
+
+-- where the disk tells, it reads as a content that has P, and a crash leaves that alone
+abbrev pub Rests : {D : Type 0} → (D → Option (List ℕ)) → (D → List ℕ → Type 0) → D → (List ℕ → Type 0) → Type 0
+Rests reads may_leave disk P = ForSome (reads disk) (λ content. P content × Only content (may_leave disk))
+
+-- the ledger stands on the disk: it is not closed and, where the disk tells, that is the ledger's image and a crash
+-- leaves it alone
+pub record IsOn {D : Type 0} (reads : D → Option (List ℕ)) (may_leave : D → List ℕ → Type 0) (disk : D) (ledger : Ledger) : Type 0 where
+  pub not_closed : is_closed ledger ≡ false
+  pub rests : Rests reads may_leave disk (Shows ledger)
+
+-- a ledger of the ratio with this total
+abbrev pub HasTotal : Ratio → ℕ → List ℕ → Type 0
+HasTotal ratio total content = ledger_total ratio content ≡ Some total
+
+-- a ledger of the ratio with the total before a charge or the one after it
+abbrev pub BeforeOrAfter : Ratio → ℕ → ℕ → List ℕ → Type 0
+BeforeOrAfter ratio total by content = HasTotal ratio total content ⊎ HasTotal ratio (total + by) content
