@@ -14,7 +14,7 @@ use Rattle.dp_ledger.proofs.Bytes.{put_torn}
 use Rattle.dp_ledger.proofs.Entries.{Keeps, gate_keeps, gate_keeps_total, total_keeps, total_keeps_gate, gate_put, total_put}
 use Rattle.dp_ledger.proofs.Totals.{AtMost, at_most_of, shut_none, open_counts, total_is, current_is, Parts, parts, size_of, counted_same, counts_open}
 
-twice : (slot : Slot) → other (other slot) ≡ slot
+pub twice : (slot : Slot) → other (other slot) ≡ slot
 twice First = refl
 twice Second = refl
 

@@ -1,16 +1,16 @@
 -- How a step of a charge leads from one rest of the disk to the next.
-use Rattle.std.proofs.Common.{◌≡◌, ◌⊎◌, inl, inr, ℕ, ◌+◌, Bool, true, false, List, length, refl, sym, ◌∙◌, ap, subst, Option, Some, None, is_some, IsSome, option_map, Result, Ok, Err, OnOk}
+use Rattle.std.proofs.Common.{◌≡◌, ◌⊎◌, inl, inr, ℕ, ◌+◌, Bool, true, false, List, length, refl, sym, ◌∙◌, ap, subst, Option, Some, None, is_some, IsSome, option_map, Result, Ok, Err, OnOk, is_err}
 use Rattle.std.specs.Option.{ForSome}
 use Rattle.dp_ledger.specs.Disk.{put_at, Torn, Only, LeavesTorn, LeavesOnly}
 use Rattle.dp_ledger.specs.Ledger.{Rests}
 use Rattle.dp_ledger.specs.Steps.{Passes}
 use Rattle.dp_ledger.proofs.Moments.{started, joined, weaker}
 
-map_some : {A B : Type 0} (f : A → B) (o : Option A) (y : B) → option_map f o ≡ Some y → (x : A) × (o ≡ Some x) × (f x ≡ y)
+pub map_some : {A B : Type 0} (f : A → B) (o : Option A) (y : B) → option_map f o ≡ Some y → (x : A) × (o ≡ Some x) × (f x ≡ y)
 map_some f None y is = absurd (cc)
 map_some f (Some x) y is = (x, refl, cc)
 
-some_of : {A : Type 0} (o : Option A) → IsSome o → (x : A) × (o ≡ Some x)
+pub some_of : {A : Type 0} (o : Option A) → IsSome o → (x : A) × (o ≡ Some x)
 some_of None is = absurd (cc)
 some_of (Some x) is = (x, refl)
 
@@ -63,3 +63,7 @@ module _ {D : Type 0} (reads : D → Option (List ℕ)) (may_leave : D → List 
 pub both_ok : {T E : Type 0} {A B C : Type 0} (r : Result T E) → OnOk r A → OnOk r B → (A → B → C) → OnOk r C
 both_ok (Ok x) a b f = f a b
 both_ok (Err e) a b f = tt
+
+pub at_not_err : {T E : Type 0} {A : Type 0} (r : Result T E) → is_err r ≡ false → OnOk r A → A
+at_not_err (Ok x) not a = a
+at_not_err (Err e) not a = absurd (cc)

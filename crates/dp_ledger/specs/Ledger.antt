@@ -1,7 +1,9 @@
 -- What a ledger is, and when it stands on a disk.
-use Rattle.std.specs.Prelude.{◌≡◌, ◌⊎◌, ◌+◌, ℕ, Bool, false, List, Option, Some}
+use Rattle.std.specs.Prelude.{◌≡◌, ◌⊎◌, ◌+◌, ◌^◌, ℕ, Bool, false, List, Option, Some, None, Result, Ok, Err, if◌then◌else◌, nat_lt}
 use Rattle.std.specs.Option.{ForSome}
 use Rattle.dp_num.specs.declared.ratio.Ratio.{Ratio}
+use Rattle.dp_ledger.specs.declared.faults.ChargeFault.{ChargeFault}
+use Rattle.dp_ledger.specs.declared.faults.ChargeFault.TheVariants as charge_fault
 use Rattle.dp_ledger.specs.declared.ledger.Ledger.{Ledger}
 use Rattle.dp_ledger.specs.Disk.{Only}
 use Rattle.dp_ledger.specs.Image.{ledger_total, current_slot, entry_at, is_open, other}
@@ -40,3 +42,14 @@ HasTotal ratio total content = ledger_total ratio content ≡ Some total
 -- a ledger of the ratio with the total before a charge or the one after it
 abbrev pub BeforeOrAfter : Ratio → ℕ → ℕ → List ℕ → Type 0
 BeforeOrAfter ratio total by content = HasTotal ratio total content ⊎ HasTotal ratio (total + by) content
+
+-- the refusal of a charge that comes before any call of the disk, in this order, where one comes
+abbrev pub refusal : Ledger → ℕ → Option ChargeFault
+refusal ledger by = if is_closed ledger then Some charge_fault.Closed else if nat_lt (2 ^ 32) (total_of ledger + by) then Some (charge_fault.Full (total_of ledger) by) else None
+
+-- the refusal that a charge answered; a fault of the disk is none
+abbrev pub refused_by : {T : Type 0} → Result T ChargeFault → Option ChargeFault
+refused_by (Ok x) = None
+refused_by (Err charge_fault.DiskFault) = None
+refused_by (Err charge_fault.Closed) = Some charge_fault.Closed
+refused_by (Err (charge_fault.Full total by)) = Some (charge_fault.Full total by)

@@ -82,7 +82,8 @@ fn entry_at(slot: Slot, bytes: &[u8]) -> Entry
 /// Whether the bytes are as many as an image has, and begin with the numbers of the ratio.
 #[tactic(auto, unfolding(crate::specs::Image::is_of))]
 fn is_of(ratio: &Ratio, bytes: &[u8]) -> bool
-    ensures { result ≡ is_of ratio.now bytes.now }
+    ensures meaning { result ≡ is_of ratio.now bytes.now }
+    ensures size { IsTrue result → length bytes.now ≡ 26 }
 {
     bytes.len() == SIZE
         && u64::from(short_at(bytes, 0)) == ratio.p
