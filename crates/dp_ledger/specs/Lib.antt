@@ -1,4 +1,5 @@
 pub mod Disk
 pub mod Image
 pub mod Ledger
+pub mod MemDisk
 pub mod Steps

@@ -3,6 +3,7 @@
 //! moment.
 #![tactic(auto)]
 
+mod blanks;
 mod disk;
 mod faults;
 mod image;
