@@ -7,7 +7,8 @@ use Rattle.dp_ledger.specs.declared.slot.Slot.{Slot}
 use Rattle.dp_ledger.specs.declared.slot.Slot.TheVariants.{First, Second}
 use Rattle.dp_ledger.specs.Disk.{put_at, Torn}
 use Rattle.dp_ledger.specs.Image.{number_at, entry_at, place_of, other, is_of}
-use Rattle.dp_ledger.proofs.Bytes.{same_length, below, above, byte_below, byte_above, put_torn, put_bytes, put_byte}
+use Rattle.dp_ledger.specs.DiskProof.{put_torn, put_bytes, put_byte}
+use Rattle.dp_ledger.proofs.Bytes.{same_length, below, above, byte_below, byte_above}
 
 -- the numbers of the ratio and the other slot stay
 pub record Keeps (slot : Slot) (was now : List ℕ) : Type 0 where

@@ -3,6 +3,7 @@ mod Entries
 mod Looking
 mod Moments
 mod NewImage
+mod Records
 mod Room
 mod Rows
 mod StepLaws

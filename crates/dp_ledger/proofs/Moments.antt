@@ -2,10 +2,6 @@
 use Rattle.std.proofs.Common.{◌≡◌, inl, inr, ⊎_elim, ◌⊎◌, ℕ, ◌≤◌, ◌+◌, List, refl, arith}
 use Rattle.dp_ledger.specs.Disk.{Elapses, LeavesOnly, Torn}
 
--- nothing is torn
-pub whole : (at n : ℕ) (was : List ℕ) → Torn at n was was
-whole at n was = record { before = refl; after = refl; no_shorter = omega arith; no_longer = omega arith }
-
 module _ {D : Type 0} (moment : D → ℕ) (left_since : D → ℕ → List ℕ → Type 0) where
   -- before the first call
   pub started : (old : D) (P : List ℕ → Type 0) → ((c : List ℕ) → left_since old (moment old) c → P c) → LeavesOnly moment left_since old old P

@@ -10,7 +10,7 @@ use Rattle.dp_ledger.specs.Disk.{put_at, Torn}
 use Rattle.dp_ledger.specs.Image.{entry_at, place_of, other, is_of, is_open, counted}
 use Rattle.dp_ledger.specs.Ledger.{Shows, HasTotal, BeforeOrAfter}
 use Rattle.dp_ledger.specs.Steps.{IsShut, IsFilled, IsRaised}
-use Rattle.dp_ledger.proofs.Bytes.{put_torn}
+use Rattle.dp_ledger.specs.DiskProof.{put_torn}
 use Rattle.dp_ledger.proofs.Entries.{Keeps, gate_keeps, gate_keeps_total, total_keeps, total_keeps_gate, gate_put, total_put}
 use Rattle.dp_ledger.proofs.Totals.{AtMost, at_most_of, shut_none, open_counts, total_is, current_is, Parts, parts, size_of, counted_same, counts_open}
 

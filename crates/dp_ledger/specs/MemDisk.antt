@@ -1,6 +1,6 @@
 -- A disk in memory: its calls, what they make of its content, and what a crash may leave after any of them.
-use Rattle.std.specs.Prelude.{◌≡◌, ℕ, ◌+◌, ◌-◌, ◌^◌, ◌≤◌, ◌==◌, ◌||◌, min, Bool, true, List, [], ◌∷◌, ◌++◌, length, take, Option, Some, if◌then◌else◌, nat_lt, nat_le, Vec, vec_capacity}
-use Rattle.std.specs.List.{fold, list_any}
+use Rattle.std.specs.Prelude.{◌≡◌, ℕ, ◌+◌, ◌-◌, ◌^◌, ◌≤◌, ◌==◌, ◌||◌, min, Bool, true, List, [], ◌∷◌, ◌++◌, length, take, Option, Some, if◌then◌else◌, nat_lt, nat_le, Vec, vec_capacity, vec_len}
+use Rattle.std.specs.List.{All, fold, list_any}
 use Rattle.std.specs.declared.alloc.Global.{Global}
 use Rattle.dp_ledger.specs.Disk.{put_at, LeavesTorn}
 
@@ -94,15 +94,33 @@ fails_next disk = nat_le disk.calls (length disk.changes) || list_any (λ number
 abbrev pub write_fails : MemValue → ℕ → ℕ → Bool
 write_fails disk at n = nat_lt disk.cap (at + n) || fails_next disk
 
--- the disk with one record more, where there is room for it
-abbrev pub noted : MemValue → Change → MemValue
-noted disk change = record disk { changes = if nat_lt (length disk.changes) disk.calls then disk.changes ++ change ∷ [] else disk.changes }
+-- the disk after a call that succeeded
+abbrev pub with_change : MemValue → Change → MemValue
+with_change disk change = record disk { changes = disk.changes ++ change ∷ [] }
 
--- the same, after a call that failed
-abbrev pub noted_fault : MemValue → Change → MemValue
-noted_fault disk change = record (noted disk change) { failed = min (disk.failed + 1) (2 ^ 64 - 1) }
+-- the changes with one more, where there is room for its record
+abbrev pub noted : ℕ → List Change → Change → List Change
+noted calls changes change = if nat_lt (length changes) calls then changes ++ change ∷ [] else changes
+
+-- the disk after a call that failed
+abbrev pub with_fault : MemValue → Change → MemValue
+with_fault disk change = record disk { changes = noted disk.calls disk.changes change; failed = min (disk.failed + 1) (2 ^ 64 - 1) }
 
 -- an empty list of bytes with room for as many
 pub record IsBlank (cap : ℕ) (bytes : Vec ℕ Global) : Type 0 where
   pub empty : bytes.items ≡ []
   pub room : cap ≤ vec_capacity bytes
+
+-- the two lists of bytes are the state's content and what it kept, and have room for as many bytes
+pub record HoldsState (state : DiskState) (cap : ℕ) (content kept : Vec ℕ Global) : Type 0 where
+  pub content_is : content.items ≡ state.content
+  pub kept_is : kept.items ≡ state.kept
+  pub small : length content.items ≤ cap
+  pub room : cap ≤ vec_capacity content
+  pub kept_room : cap ≤ vec_capacity kept
+
+-- there is room for the records of as many calls
+pub record HasRoom (calls cap : ℕ) (made : Vec Change Global) (blanks : Vec (Vec ℕ Global) Global) : Type 0 where
+  pub records : calls ≤ vec_capacity made
+  pub enough : calls ≤ vec_len blanks + length made.items
+  pub blank : All (IsBlank cap) blanks.items

@@ -4,9 +4,11 @@
 #![tactic(auto)]
 
 mod blanks;
+mod calls;
 mod disk;
 mod faults;
 mod image;
+mod mem_disk;
 mod ledger;
 mod settle;
 mod slot;
@@ -15,3 +17,4 @@ mod steps;
 pub use disk::Disk;
 pub use faults::{ChargeFault, CreateFault, OpenLedgerFault};
 pub use ledger::Ledger;
+pub use mem_disk::MemDisk;

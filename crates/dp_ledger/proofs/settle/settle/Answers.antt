@@ -1,6 +1,7 @@
 use Rattle.std.proofs.Common.{ℕ, List, length}
 use Rattle.dp_ledger.specs.Disk.{LeavesTorn}
-use Rattle.dp_ledger.proofs.Moments.{whole, started, goes_on}
+use Rattle.dp_ledger.specs.DiskProof.{whole}
+use Rattle.dp_ledger.proofs.Moments.{started, goes_on}
 use Rattle.dp_ledger.proofs.settle.settle.Goals as goal
 
 -- a crash in the write leaves what was there, or that with the range torn
