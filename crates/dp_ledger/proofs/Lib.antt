@@ -1,6 +1,7 @@
 mod Bytes
 mod Entries
 mod Looking
+mod MemLaws
 mod Moments
 mod NewImage
 mod Records
