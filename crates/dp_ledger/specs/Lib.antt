@@ -1,5 +1,6 @@
 pub mod Disk
 pub mod DiskProof
+pub mod FileDisk
 pub mod Image
 pub mod Ledger
 pub mod Made

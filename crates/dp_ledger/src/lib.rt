@@ -7,6 +7,7 @@ mod blanks;
 mod calls;
 mod disk;
 mod faults;
+mod file_disk;
 mod image;
 mod mem_disk;
 mod ledger;
@@ -16,5 +17,6 @@ mod steps;
 
 pub use disk::Disk;
 pub use faults::{ChargeFault, CreateFault, OpenLedgerFault};
+pub use file_disk::FileDisk;
 pub use ledger::Ledger;
 pub use mem_disk::MemDisk;
