@@ -12,7 +12,7 @@ use dp_num::Ratio;
 
 /// A total of units on a disk, which it does not hold: the ratio, the total, at most 2^32, which slot is current,
 /// whether the other slot's gate is open, and whether it is closed.
-#[derive(Debug)]
+#[derive(Debug, Drop)]
 pub struct Ledger {
     pub(crate) ratio: Ratio,
     pub(crate) total: u64,

@@ -20,3 +20,6 @@ pub use faults::{ChargeFault, CreateFault, OpenLedgerFault};
 pub use file_disk::FileDisk;
 pub use ledger::Ledger;
 pub use mem_disk::MemDisk;
+
+#[cfg(test)]
+mod tests;
