@@ -1,7 +1,7 @@
 -- What a torn write and a whole one leave of a content's bytes.
-use Rattle.std.proofs.Common.{◌≡◌, ℕ, ◌+◌, ◌-◌, ◌<◌, ◌≤◌, min, max, List, [], ◌∷◌, ◌++◌, length, get_or, take, drop, replicate, refl, sym, ◌∙◌, ap, subst, arith, append_assoc, length-append, length-take, length-drop}
-use Rattle.std.proofs.lemmas.List.{length-replicate, take-take, drop-take, drop-drop, get_or-take, get_or-drop, take_at, drop_at, take_min, get_or_at}
-use Rattle.dp_ledger.specs.Disk.{put_at, Torn}
+use Rattle.std.proofs.Common.{◌≡◌, ℕ, ◌+◌, ◌-◌, ◌<◌, ◌≤◌, min, List, length, get_or, take, drop, sym, ◌∙◌, ap, subst, arith}
+use Rattle.std.proofs.lemmas.List.{take-take, drop-take, drop-drop, get_or-take, get_or-drop}
+use Rattle.dp_ledger.specs.Disk.{Torn}
 
 -- a range inside the content: the bytes outside of it stay
 module _ (at n : ℕ) (was now : List ℕ) (inside : at + n ≤ length was) (torn : Torn at n was now) where
@@ -23,7 +23,7 @@ module _ (at n : ℕ) (was now : List ℕ) (inside : at + n ≤ length was) (tor
   above f le =
       let e : at + n + (f - (at + n)) ≡ f = omega arith in
       subst (λ (k : ℕ). drop k now ≡ drop k was) e
-          (sym (drop-drop (f - (at + n)) (at + n) now) ∙ ap (λ (l : List ℕ). drop (f - (at + n)) l) torn.after ∙ drop-drop (f - (at + n)) (at + n) was)
+      (sym (drop-drop (f - (at + n)) (at + n) now) ∙ ap (λ (l : List ℕ). drop (f - (at + n)) l) torn.after ∙ drop-drop (f - (at + n)) (at + n) was)
 
   pub byte_below : (i : ℕ) → i < at → get_or now i 0 ≡ get_or was i 0
   byte_below i lt = sym (get_or-take at now i 0 lt) ∙ ap (λ (l : List ℕ). get_or l i 0) front ∙ get_or-take at was i 0 lt
@@ -32,4 +32,4 @@ module _ (at n : ℕ) (was now : List ℕ) (inside : at + n ≤ length was) (tor
   byte_above i le =
       let e : at + n + (i - (at + n)) ≡ i = omega arith in
       subst (λ (k : ℕ). get_or now k 0 ≡ get_or was k 0) e
-          (sym (get_or-drop (at + n) now (i - (at + n)) 0) ∙ ap (λ (l : List ℕ). get_or l (i - (at + n)) 0) torn.after ∙ get_or-drop (at + n) was (i - (at + n)) 0)
+      (sym (get_or-drop (at + n) now (i - (at + n)) 0) ∙ ap (λ (l : List ℕ). get_or l (i - (at + n)) 0) torn.after ∙ get_or-drop (at + n) was (i - (at + n)) 0)

@@ -1,5 +1,5 @@
 -- What a write in one slot of an image leaves of its numbers and of both slots.
-use Rattle.std.proofs.Common.{◌≡◌, ℕ, ◌+◌, ◌<◌, ◌≤◌, ◌^◌, ◌==◌, ◌&&◌, List, [], ◌∷◌, length, get_or, take, drop, refl, sym, ◌∙◌, ap, arith}
+use Rattle.std.proofs.Common.{◌≡◌, ℕ, ◌+◌, ◌<◌, ◌≤◌, ◌^◌, ◌==◌, ◌&&◌, List, [], ◌∷◌, length, take, ◌∙◌, ap, arith}
 use Rattle.std.proofs.lemmas.Nat.{from_le_bytes-to_le_bytes_8}
 use Rattle.std.specs.Int.{w32, w64, from_le_bytes, to_le_bytes}
 use Rattle.dp_num.specs.declared.ratio.Ratio.{Ratio}
@@ -7,7 +7,7 @@ use Rattle.dp_ledger.specs.declared.slot.Slot.{Slot}
 use Rattle.dp_ledger.specs.declared.slot.Slot.TheVariants.{First, Second}
 use Rattle.dp_ledger.specs.Disk.{put_at, Torn}
 use Rattle.dp_ledger.specs.Image.{number_at, entry_at, place_of, other, is_of}
-use Rattle.dp_ledger.specs.DiskProof.{put_torn, put_bytes, put_byte}
+use Rattle.dp_ledger.specs.DiskProof.{put_bytes, put_byte}
 use Rattle.dp_ledger.proofs.Bytes.{same_length, below, above, byte_below, byte_above}
 
 -- the numbers of the ratio and the other slot stay

@@ -1,5 +1,5 @@
 -- What a buffer of one byte more than an image tells of a content.
-use Rattle.std.proofs.Common.{◌≡◌, ◌⊎◌, inl, inr, ℕ, ◌+◌, ◌-◌, ◌≤◌, ◌<◌, min, List, length, take, drop, refl, sym, ◌∙◌, ap, Option, Some, None, arith, length-take, subst}
+use Rattle.std.proofs.Common.{◌≡◌, ℕ, List, length, take, refl, sym, ◌∙◌, ap, Option, Some, None, arith, length-take, subst}
 use Rattle.std.proofs.lemmas.List.{take_all}
 use Rattle.dp_num.specs.declared.ratio.Ratio.{Ratio}
 use Rattle.dp_ledger.specs.Disk.{Fills}

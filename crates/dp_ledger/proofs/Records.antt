@@ -1,10 +1,9 @@
 -- What one more record makes of a disk in memory.
-use Rattle.std.proofs.Common.{◌≡◌, ◌⊎◌, inl, inr, ℕ, ◌+◌, ◌<◌, ◌≤◌, ◌||◌, Bool, true, false, List, [], ◌∷◌, ◌++◌, length, refl, sym, ◌∙◌, ap, cond, nat_lt, nat_le, arith, length-append, Vec, vec_capacity, vec_len}
+use Rattle.std.proofs.Common.{◌≡◌, ◌⊎◌, inl, inr, ℕ, ◌+◌, ◌<◌, ◌≤◌, ◌||◌, Bool, true, false, List, [], ◌∷◌, ◌++◌, length, refl, sym, ◌∙◌, ap, cond, nat_lt, nat_le, arith, length-append, Vec, vec_capacity}
 use Rattle.std.proofs.lemmas.Bool.{cases_Bool}
 use Rattle.std.proofs.lemmas.Bool.Decides.{nat_tests}
-use Rattle.std.specs.List.{list_any, All}
 use Rattle.std.specs.declared.alloc.Global.{Global}
-use Rattle.dp_ledger.specs.MemDisk.{Change, DiskState, after_change, replayed, noted, MemValue, fails_next, write_fails, HoldsState, HasRoom, IsBlank}
+use Rattle.dp_ledger.specs.MemDisk.{Change, DiskState, after_change, replayed, noted, MemValue, fails_next, write_fails, HoldsState}
 use Rattle.dp_ledger.specs.MemDiskProof.{replayed_push}
 
 pub noted_push : (calls : ℕ) (changes : List Change) (change : Change) → length changes < calls → noted calls changes change ≡ changes ++ change ∷ []

@@ -1,8 +1,7 @@
 -- What each write of a charge leaves, torn or whole.
-use Rattle.std.proofs.Common.{◌≡◌, ◌⊎◌, inl, inr, ℕ, ◌+◌, ◌<◌, ◌≤◌, ◌^◌, ◌==◌, Bool, true, false, List, [], ◌∷◌, length, refl, sym, ◌∙◌, ap, subst, Option, Some, None, arith}
+use Rattle.std.proofs.Common.{◌≡◌, inl, inr, ℕ, ◌+◌, ◌<◌, ◌≤◌, ◌^◌, ◌==◌, true, false, List, [], ◌∷◌, refl, sym, ◌∙◌, ap, subst, Some, arith}
 use Rattle.std.proofs.lemmas.Bool.{cases_Bool}
 use Rattle.std.specs.Int.{w64, to_le_bytes}
-use Rattle.dp_ledger.specs.declared.image.Entry.{Entry}
 use Rattle.dp_ledger.specs.declared.ledger.Ledger.{Ledger}
 use Rattle.dp_ledger.specs.declared.slot.Slot.{Slot}
 use Rattle.dp_ledger.specs.declared.slot.Slot.TheVariants.{First, Second}
@@ -12,7 +11,7 @@ use Rattle.dp_ledger.specs.Ledger.{Shows, HasTotal, BeforeOrAfter}
 use Rattle.dp_ledger.specs.Steps.{IsShut, IsFilled, IsRaised}
 use Rattle.dp_ledger.specs.DiskProof.{put_torn}
 use Rattle.dp_ledger.proofs.Entries.{Keeps, gate_keeps, gate_keeps_total, total_keeps, total_keeps_gate, gate_put, total_put}
-use Rattle.dp_ledger.proofs.Totals.{AtMost, at_most_of, shut_none, open_counts, total_is, current_is, Parts, parts, size_of, counted_same, counts_open}
+use Rattle.dp_ledger.proofs.Totals.{AtMost, at_most_of, shut_none, open_counts, total_is, current_is, parts, size_of, counted_same, counts_open}
 
 pub twice : (slot : Slot) → other (other slot) ≡ slot
 twice First = refl
@@ -91,8 +90,7 @@ module _ (ledger : Ledger) where
   open_parts : (total : ℕ) (was now : List ℕ) → IsFilled ledger total was → Torn (place_of (other ledger.current) + 8) 1 was now → (is_of ledger.ratio now ≡ true) × (counted (entry_at ledger.current now) ≡ Some ledger.total) × ((entry_at (other ledger.current) now).total ≡ total)
   open_parts total was now filled torn =
       let size = size_of ledger.ratio was filled.closed.of_ratio in
-      let keeps = gate_keeps (other ledger.current) was now size torn in
-      (
+      let keeps = gate_keeps (other ledger.current) was now size torn in (
         keeps.of_ratio ledger.ratio ∙ filled.closed.of_ratio,
         ap counted (kept ledger.current was now keeps) ∙ filled.closed.current,
         gate_keeps_total (other ledger.current) was now size torn ∙ filled.filled,
@@ -108,7 +106,7 @@ module _ (ledger : Ledger) where
   raised_total : (total : ℕ) (now : List ℕ) → is_of ledger.ratio now ≡ true → counted (entry_at ledger.current now) ≡ Some ledger.total → counted (entry_at (other ledger.current) now) ≡ Some total → ledger.total ≤ total → HasTotal ledger.ratio total now
   raised_total total now of counts other_counts le =
       total_is ledger.ratio (other ledger.current) now total of other_counts
-          (subst (λ (s : Slot). AtMost total (counted (entry_at s now))) (sym (twice ledger.current)) (at_most_of _ ledger.total total counts le))
+      (subst (λ (s : Slot). AtMost total (counted (entry_at s now))) (sym (twice ledger.current)) (at_most_of _ ledger.total total counts le))
 
   -- the gate of the other slot, over a whole total, torn
   pub open_torn : (by : ℕ) (was now : List ℕ) → ledger.total + by ≤ 2 ^ 32 → IsFilled ledger (ledger.total + by) was → Torn (place_of (other ledger.current) + 8) 1 was now → BeforeOrAfter ledger.ratio ledger.total by now

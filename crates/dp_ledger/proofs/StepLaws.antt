@@ -1,5 +1,5 @@
 -- How a step of a charge leads from one rest of the disk to the next.
-use Rattle.std.proofs.Common.{◌≡◌, ◌⊎◌, inl, inr, ℕ, ◌+◌, Bool, true, false, List, length, refl, sym, ◌∙◌, ap, subst, Option, Some, None, is_some, IsSome, option_map, Result, Ok, Err, OnOk, is_err}
+use Rattle.std.proofs.Common.{◌≡◌, ℕ, false, List, refl, sym, ◌∙◌, subst, Option, Some, None, IsSome, option_map, Result, Ok, Err, OnOk, is_err}
 use Rattle.std.specs.Option.{ForSome}
 use Rattle.dp_ledger.specs.Disk.{put_at, Torn, Only, LeavesTorn, LeavesOnly}
 use Rattle.dp_ledger.specs.Ledger.{Rests}
@@ -33,7 +33,7 @@ module _ {D : Type 0} (reads : D → Option (List ℕ)) (may_leave : D → List 
         let was = some_of (reads old) tells in
         let is = rests was.0 was.1 in
         weaker moment left_since old new (LeavesTorn (may_leave old) at n) R
-            (λ c left. leads was.0 c is.0 (subst (λ (d : List ℕ). Torn at n d c) (is.1 left.0 left.1) left.2)) run;
+        (λ c left. leads was.0 c is.0 (subst (λ (d : List ℕ). Torn at n d c) (is.1 left.0 left.1) left.2)) run;
   }
 
   -- no call

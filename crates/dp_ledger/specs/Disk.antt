@@ -26,7 +26,8 @@ abbrev pub Only : List ℕ → (List ℕ → Type 0) → Type 0
 Only content outcomes = (c : List ℕ) → outcomes c → c ≡ content
 
 -- each new outcome of a crash is an old outcome after a step
-abbrev pub Follows : (List ℕ → List ℕ → Type 0) → (List ℕ → Type 0) → (List ℕ → Type 0) → Type 0
+abbrev pub Follows : (List ℕ → List ℕ → Type 0) → (List ℕ → Type 0) → (List ℕ → Type 0)
+    → Type 0
 Follows step old new = (c : List ℕ) → new c → (d : List ℕ) × old d × step d c
 
 -- a crash leaves one of the old outcomes, with n bytes from a place on torn
@@ -39,13 +40,15 @@ pub record SameOutcomes (old new : List ℕ → Type 0) : Type 0 where
   pub no_fewer : (c : List ℕ) → old c → new c
 
 -- time goes on: a crash since t may have left what it might have left before, or what it may leave now
-pub record Elapses (before now : ℕ) (past since : ℕ → List ℕ → Type 0) (may_leave : List ℕ → Type 0) : Type 0 where
+pub record Elapses (before now : ℕ) (past since : ℕ → List ℕ → Type 0)
+    (may_leave : List ℕ → Type 0) : Type 0 where
   pub later : before ≤ now
   pub nothing_else : (t : ℕ) (c : List ℕ) → t ≤ before → since t c → past t c ⊎ may_leave c
   pub keeps : (t : ℕ) (c : List ℕ) → t ≤ before → past t c → since t c
 
 -- a crash at any moment from the old disk on leaves a content that has P
-pub record LeavesOnly {D : Type 0} (moment : D → ℕ) (left_since : D → ℕ → List ℕ → Type 0) (old new : D) (P : List ℕ → Type 0) : Type 0 where
+pub record LeavesOnly {D : Type 0} (moment : D → ℕ) (left_since : D → ℕ → List ℕ → Type 0)
+    (old new : D) (P : List ℕ → Type 0) : Type 0 where
   pub later : moment old ≤ moment new
   pub each : (c : List ℕ) → left_since new (moment old) c → P c
   -- for a run that began earlier

@@ -1,6 +1,6 @@
 -- Proofs on bytes that are put at a place.
-use Rattle.std.proofs.Common.{◌≡◌, ℕ, ◌+◌, ◌-◌, ◌<◌, ◌≤◌, min, max, List, [], ◌∷◌, ◌++◌, length, get_or, take, drop, replicate, refl, sym, ◌∙◌, ap, subst, arith, append_assoc, length-append, length-take, length-drop}
-use Rattle.std.proofs.lemmas.List.{length-replicate, take-take, drop-take, drop-drop, get_or-take, get_or-drop, take_at, drop_at, take_min, get_or_at}
+use Rattle.std.proofs.Common.{◌≡◌, ℕ, ◌+◌, ◌-◌, min, max, List, [], ◌∷◌, ◌++◌, length, get_or, take, drop, replicate, refl, sym, ◌∙◌, ap, arith, append_assoc, length-append, length-take, length-drop}
+use Rattle.std.proofs.lemmas.List.{length-replicate, take_at, drop_at, take_min, get_or_at}
 use Rattle.dp_ledger.specs.Disk.{put_at, Torn}
 
 -- nothing is torn

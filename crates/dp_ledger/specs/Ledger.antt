@@ -26,12 +26,14 @@ pub record Shows (ledger : Ledger) (content : List ℕ) : Type 0 where
   pub other_gate : is_open (entry_at (other ledger.current) content) ≡ ledger.other_open
 
 -- where the disk tells, it reads as a content that has P, and a crash leaves that alone
-abbrev pub Rests : {D : Type 0} → (D → Option (List ℕ)) → (D → List ℕ → Type 0) → D → (List ℕ → Type 0) → Type 0
+abbrev pub Rests : {D : Type 0} → (D → Option (List ℕ)) → (D → List ℕ → Type 0) → D
+    → (List ℕ → Type 0) → Type 0
 Rests reads may_leave disk P = ForSome (reads disk) (λ content. P content × Only content (may_leave disk))
 
 -- the ledger stands on the disk: it is not closed and, where the disk tells, that is the ledger's image and a crash
 -- leaves it alone
-pub record IsOn {D : Type 0} (reads : D → Option (List ℕ)) (may_leave : D → List ℕ → Type 0) (disk : D) (ledger : Ledger) : Type 0 where
+pub record IsOn {D : Type 0} (reads : D → Option (List ℕ)) (may_leave : D → List ℕ → Type 0)
+    (disk : D) (ledger : Ledger) : Type 0 where
   pub not_closed : is_closed ledger ≡ false
   pub rests : Rests reads may_leave disk (Shows ledger)
 
@@ -45,7 +47,10 @@ BeforeOrAfter ratio total by content = HasTotal ratio total content ⊎ HasTotal
 
 -- the refusal of a charge that comes before any call of the disk, in this order, where one comes
 abbrev pub refusal : Ledger → ℕ → Option ChargeFault
-refusal ledger by = if is_closed ledger then Some charge_fault.Closed else if nat_lt (2 ^ 32) (total_of ledger + by) then Some (charge_fault.Full (total_of ledger) by) else None
+refusal ledger by =
+    if is_closed ledger then Some charge_fault.Closed
+    else if nat_lt (2 ^ 32) (total_of ledger + by) then Some (charge_fault.Full (total_of ledger) by)
+    else None
 
 -- the refusal that a charge answered; a fault of the disk is none
 abbrev pub refused_by : {T : Type 0} → Result T ChargeFault → Option ChargeFault

@@ -1,5 +1,5 @@
 -- A disk in memory: its calls, what they make of its content, and what a crash may leave after any of them.
-use Rattle.std.specs.Prelude.{◌≡◌, ℕ, ◌+◌, ◌-◌, ◌^◌, ◌≤◌, ◌==◌, ◌||◌, min, Bool, true, List, [], ◌∷◌, ◌++◌, length, take, Option, Some, if◌then◌else◌, nat_lt, nat_le, Vec, vec_capacity, vec_len}
+use Rattle.std.specs.Prelude.{◌≡◌, ℕ, ◌+◌, ◌-◌, ◌^◌, ◌≤◌, ◌==◌, ◌||◌, min, Bool, List, [], ◌∷◌, ◌++◌, length, take, if◌then◌else◌, nat_lt, nat_le, Vec, vec_capacity, vec_len}
 use Rattle.std.specs.List.{All, fold, list_any}
 use Rattle.std.specs.declared.alloc.Global.{Global}
 use Rattle.dp_ledger.specs.Disk.{put_at, LeavesTorn}
@@ -80,7 +80,8 @@ moment_of disk = length disk.changes
 
 -- what a crash after the t-th call or a later one may have left
 abbrev pub LeftSince : MemValue → ℕ → List ℕ → Type 0
-LeftSince disk t c = (k : ℕ) × (t ≤ k) × (k ≤ length disk.changes) × Leaves (replayed disk.first (take k disk.changes)) c
+LeftSince disk t c =
+    (k : ℕ) × (t ≤ k) × (k ≤ length disk.changes) × Leaves (replayed disk.first (take k disk.changes)) c
 
 -- a count, which stands still at 2 ^ 64 - 1
 abbrev pub counted : ℕ → ℕ
@@ -88,7 +89,9 @@ counted n = min n (2 ^ 64 - 1)
 
 -- whether the next call is past the last that may succeed, or is one that is to fail
 abbrev pub fails_next : MemValue → Bool
-fails_next disk = nat_le disk.calls (length disk.changes) || list_any (λ number. number == length disk.changes + 1) disk.fails
+fails_next disk =
+    nat_le disk.calls (length disk.changes)
+    || list_any (λ number. number == length disk.changes + 1) disk.fails
 
 -- whether a write of n bytes at a place fails
 abbrev pub write_fails : MemValue → ℕ → ℕ → Bool
@@ -100,11 +103,15 @@ with_change disk change = record disk { changes = disk.changes ++ change ∷ [] 
 
 -- the changes with one more, where there is room for its record
 abbrev pub noted : ℕ → List Change → Change → List Change
-noted calls changes change = if nat_lt (length changes) calls then changes ++ change ∷ [] else changes
+noted calls changes change =
+    if nat_lt (length changes) calls then changes ++ change ∷ [] else changes
 
 -- the disk after a call that failed
 abbrev pub with_fault : MemValue → Change → MemValue
-with_fault disk change = record disk { changes = noted disk.calls disk.changes change; failed = min (disk.failed + 1) (2 ^ 64 - 1) }
+with_fault disk change = record disk {
+  changes = noted disk.calls disk.changes change;
+  failed = min (disk.failed + 1) (2 ^ 64 - 1);
+}
 
 -- an empty list of bytes with room for as many
 pub record IsBlank (cap : ℕ) (bytes : Vec ℕ Global) : Type 0 where
@@ -120,7 +127,8 @@ pub record HoldsState (state : DiskState) (cap : ℕ) (content kept : Vec ℕ Gl
   pub kept_room : cap ≤ vec_capacity kept
 
 -- there is room for the records of as many calls
-pub record HasRoom (calls cap : ℕ) (made : Vec Change Global) (blanks : Vec (Vec ℕ Global) Global) : Type 0 where
+pub record HasRoom (calls cap : ℕ) (made : Vec Change Global)
+    (blanks : Vec (Vec ℕ Global) Global) : Type 0 where
   pub records : calls ≤ vec_capacity made
   pub enough : calls ≤ vec_len blanks + length made.items
   pub blank : All (IsBlank cap) blanks.items

@@ -1,10 +1,9 @@
 -- Proofs of the laws of a disk in memory, at every value of it.
-use Rattle.std.specs.Prelude.{◌≡◌, ◌⊎◌, ℕ, ◌+◌, ◌≤◌, ◌<◌, List, [], ◌∷◌, ◌++◌, length, take, refl, Option, Some}
-use Rattle.std.proofs.Common.{sym, ◌∙◌, ap, subst, inl, inr, arith}
+use Rattle.std.specs.Prelude.{◌≡◌, ℕ, ◌≤◌, List, [], ◌∷◌, ◌++◌, refl, Some}
+use Rattle.std.proofs.Common.{sym, subst, arith}
 use Rattle.std.proofs.lemmas.List.{take_all}
 use Rattle.std.proofs.lemmas.List.Sums.{fold-append}
 use Rattle.std.specs.List.{fold}
-use Rattle.dp_ledger.specs.Disk.{put_at, Torn}
 use Rattle.dp_ledger.specs.MemDisk.{Change, written, torn, synced, nothing, DiskState, after_change, replayed, Leaves, MemValue, content_of, MayLeave, LeftSince, moment_of}
 use Rattle.dp_ledger.specs.DiskProof.{put_torn, whole}
 

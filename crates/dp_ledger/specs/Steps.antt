@@ -22,6 +22,7 @@ pub record IsRaised (ledger : Ledger) (total : ℕ) (content : List ℕ) : Type 
   pub other_gate : is_open (entry_at ledger.current content) ≡ true
 
 -- where the old disk tells, the new one does, and a crash at any moment between leaves a content that has P
-pub record Passes {D : Type 0} (reads : D → Option (List ℕ)) (moment : D → ℕ) (left_since : D → ℕ → List ℕ → Type 0) (old new : D) (P : List ℕ → Type 0) : Type 0 where
+pub record Passes {D : Type 0} (reads : D → Option (List ℕ)) (moment : D → ℕ)
+    (left_since : D → ℕ → List ℕ → Type 0) (old new : D) (P : List ℕ → Type 0) : Type 0 where
   pub telling : IsSome (reads old) → IsSome (reads new)
   pub any_moment : IsSome (reads old) → LeavesOnly moment left_since old new P

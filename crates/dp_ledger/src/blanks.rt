@@ -7,11 +7,7 @@ use dp_count::NoMemory;
 use std::alloc::Global;
 
 /// Empty lists of bytes, each with room for `cap`.
-pub(crate) fn new_blanks(
-    alloc: Global,
-    count: usize,
-    cap: usize,
-) -> Result<Vec<Vec<u8>>, NoMemory>
+pub(crate) fn new_blanks(alloc: Global, count: usize, cap: usize) -> Result<Vec<Vec<u8>>, NoMemory>
     ensures count { IfOk result (λ blanks. vec_len blanks ≡ count) }
     ensures blank { IfOk result (λ blanks. All (IsBlank cap) blanks.items) }
 {

@@ -32,7 +32,8 @@ pub trait Disk {
         ensures fills { IfOk result (λ n. ForSome (reads self.old) (λ content. Fills content at n buf.new)) }
         ensures same { reads self.new ≡ reads self.old }
         ensures still { SameOutcomes (may_leave self.old) (may_leave self.new) }
-        ensures time { Elapses (moment self.old) (moment self.new) (left_since self.old) (left_since self.new) (may_leave self.new) }
+        ensures time { Elapses (moment self.old) (moment self.new) (left_since self.old) (left_since self.new)
+            (may_leave self.new) }
         ensures cause { HasCause (faults self.old) (faults self.new) result };
 
     /// Puts bytes, at least one, at a place; a gap before them reads as zeros. Until a sync succeeds, and after
@@ -40,9 +41,11 @@ pub trait Disk {
     fn write_at(&mut self, at: u64, bytes: &[u8]) -> Result<(), Failed>
         requires { 0 < length bytes.now }
         ensures written { OnOk result (reads self.new ≡ option_map (put_at at bytes.now) (reads self.old)) }
-        ensures torn { OnErr result (ForSome (reads self.old) (λ was. BecomesTorn at (length bytes.now) was (reads self.new))) }
+        ensures torn { OnErr result (ForSome (reads self.old)
+            (λ was. BecomesTorn at (length bytes.now) was (reads self.new))) }
         ensures crash { Follows (Torn at (length bytes.now)) (may_leave self.old) (may_leave self.new) }
-        ensures time { Elapses (moment self.old) (moment self.new) (left_since self.old) (left_since self.new) (may_leave self.new) }
+        ensures time { Elapses (moment self.old) (moment self.new) (left_since self.old) (left_since self.new)
+            (may_leave self.new) }
         ensures cause { HasCause (faults self.old) (faults self.new) result };
 
     /// After `Ok` a crash leaves what a read gives. It never changes what a read gives. `Failed` comes only where the
@@ -52,14 +55,16 @@ pub trait Disk {
         ensures still { OnErr result (SameOutcomes (may_leave self.old) (may_leave self.new)) }
         ensures same { reads self.new ≡ reads self.old }
         ensures crash { (c : List ℕ) → may_leave self.new c → may_leave self.old c }
-        ensures time { Elapses (moment self.old) (moment self.new) (left_since self.old) (left_since self.new) (may_leave self.new) }
+        ensures time { Elapses (moment self.old) (moment self.new) (left_since self.old) (left_since self.new)
+            (may_leave self.new) }
         ensures cause { HasCause (faults self.old) (faults self.new) result };
 
     // what it reads as is one of the contents that a crash now may leave
     ghost reads_are_left: { (disk : Self) → ForSome (reads disk) (may_leave disk) };
 
     // this moment is one of those since an earlier time
-    ghost counts_now: { (disk : Self) (t : ℕ) (c : List ℕ) → t ≤ moment disk → may_leave disk c → left_since disk t c };
+    ghost counts_now: { (disk : Self) (t : ℕ) (c : List ℕ) → t ≤ moment disk → may_leave disk c
+        → left_since disk t c };
 
     // since this moment there is no other
     ghost only_now: { (disk : Self) (c : List ℕ) → left_since disk (moment disk) c → may_leave disk c };

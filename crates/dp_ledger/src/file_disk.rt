@@ -78,7 +78,9 @@ where
     /// Counts a fault where the call failed.
     fn counted<T>(&mut self, answer: Result<T, Failed>) -> Result<T, Failed>
         ensures same { result ≡ answer }
-        ensures counts { self.new ≡ record self.old { failed = if is_ok answer then self.old.failed else one_more self.old.failed } }
+        ensures counts { self.new ≡ record self.old {
+          failed = if is_ok answer then self.old.failed else one_more self.old.failed;
+        } }
     {
         if answer.is_err() {
             self.count_fault();

@@ -1,6 +1,6 @@
 ghost use Rattle.std.specs.Prelude.{◌≡◌, ◌≢◌, ◌⊎◌, ◌+◌, ◌≤◌, ◌^◌, true, false, List, ℕ, [], Some, None, Err, IfOk, OnOk, OnErr, IsOk, IsSome};
 ghost use Rattle.std.specs.Option.{ForSome};
-ghost use Rattle.dp_count.specs.Faults.{Rose};
+ghost use Rattle.dp_count.specs.Faults.{Rose, Still};
 ghost use Rattle.dp_ledger.specs.Disk.{Only, LeavesOnly};
 ghost use Rattle.dp_ledger.specs.Image.{ledger_total, new_image};
 
@@ -31,6 +31,8 @@ impl Ledger {
         // Where no call of the disk failed, the answer is one of these two, by the content.
         ensures there { result ≡ Err CreateFault.There → ForSome (B.reads disk.old) (λ content. content ≢ []) }
         ensures empty { OnOk result (ForSome (B.reads disk.old) (λ content. content ≡ [])) }
+        ensures only_there { ForSome (B.reads disk.old) (λ content. content ≢ []
+            → Still (B.faults disk.old) (B.faults disk.new) → result ≡ Err CreateFault.There) }
 
         ensures stands { IfOk result (λ ledger. IsOn B.reads B.may_leave disk.new ledger) }
         ensures ratio { IfOk result (λ ledger. ratio_of ledger ≡ ratio) }
@@ -61,13 +63,17 @@ impl Ledger {
     /// that ratio and no call of the disk failed.
     pub fn open<B: Disk>(disk: &mut B, ratio: Ratio) -> Result<Ledger, OpenLedgerFault>
         // Where no call of the disk failed, the answer is one of these two, by the content.
-        ensures none { result ≡ Err OpenLedgerFault.NotLedger → ForSome (B.reads disk.old) (λ content. ledger_total ratio content ≡ None) }
+        ensures none { result ≡ Err OpenLedgerFault.NotLedger
+            → ForSome (B.reads disk.old) (λ content. ledger_total ratio content ≡ None) }
         ensures found { IfOk result (λ ledger. ForSome (B.reads disk.old) (HasTotal ratio (total_of ledger))) }
+        ensures only_none { ForSome (B.reads disk.old) (λ content. ledger_total ratio content ≡ None
+            → Still (B.faults disk.old) (B.faults disk.new) → result ≡ Err OpenLedgerFault.NotLedger) }
 
         ensures stands { IfOk result (λ ledger. IsOn B.reads B.may_leave disk.new ledger) }
         ensures ratio { IfOk result (λ ledger. ratio_of ledger ≡ ratio) }
         ensures range { IfOk result (λ ledger. total_of ledger ≤ 2 ^ 32) }
-        ensures acknowledged { IfOk result (λ ledger. IsSome (B.reads disk.old) → (c : List ℕ) → B.may_leave disk.new c → HasTotal ratio (total_of ledger) c) }
+        ensures acknowledged { IfOk result (λ ledger. IsSome (B.reads disk.old) →
+            (c : List ℕ) → B.may_leave disk.new c → HasTotal ratio (total_of ledger) c) }
 
         ensures kept { B.reads disk.new ≡ B.reads disk.old }
         ensures any_moment { LeavesOnly B.moment B.left_since disk.old disk.new (B.may_leave disk.old) }
@@ -129,12 +135,17 @@ impl Ledger {
         ensures ratio { ratio_of self.new ≡ ratio_of self.old }
         ensures closes { result ≡ Err ChargeFault.DiskFault → is_closed self.new ≡ true }
         ensures stays { result ≢ Err ChargeFault.DiskFault → is_closed self.new ≡ is_closed self.old }
-        ensures stands { result ≢ Err ChargeFault.DiskFault → is_closed self.old ≡ false → IsOn B.reads B.may_leave disk.new self.new }
+        ensures stands { result ≢ Err ChargeFault.DiskFault → is_closed self.old ≡ false
+            → IsOn B.reads B.may_leave disk.new self.new }
 
         // Where the disk tells: what a crash leaves at any moment, and after `Ok`, and what a read gives.
-        ensures any_moment { is_closed self.old ≡ false → IsSome (B.reads disk.old) → LeavesOnly B.moment B.left_since disk.old disk.new (BeforeOrAfter (ratio_of self.old) (total_of self.old) by) }
-        ensures acknowledged { OnOk result (IsSome (B.reads disk.old) → (c : List ℕ) → B.may_leave disk.new c → HasTotal (ratio_of self.old) (total_of self.old + by) c) }
-        ensures reads { is_closed self.old ≡ false → IsSome (B.reads disk.old) → ForSome (B.reads disk.new) (BeforeOrAfter (ratio_of self.old) (total_of self.old) by) }
+        ensures any_moment { is_closed self.old ≡ false → IsSome (B.reads disk.old)
+            → LeavesOnly B.moment B.left_since disk.old disk.new
+            (BeforeOrAfter (ratio_of self.old) (total_of self.old) by) }
+        ensures acknowledged { OnOk result (IsSome (B.reads disk.old) → (c : List ℕ) → B.may_leave disk.new c
+            → HasTotal (ratio_of self.old) (total_of self.old + by) c) }
+        ensures reads { is_closed self.old ≡ false → IsSome (B.reads disk.old)
+            → ForSome (B.reads disk.new) (BeforeOrAfter (ratio_of self.old) (total_of self.old) by) }
         ensures telling { IsSome (B.reads disk.old) → IsSome (B.reads disk.new) }
 
         ensures later { B.faults disk.old ≤ B.faults disk.new }

@@ -33,9 +33,17 @@ impl Model for MemDisk {
 
     ghost Value = { MemValue };
 
-    ghost view = { λ disk. record { first = disk.first.items; changes = disk.records.items; fails = disk.fails.items; cap = disk.cap; calls = disk.calls; failed = disk.failed } };
+    ghost view = { λ disk. record {
+      first = disk.first.items;
+      changes = disk.records.items;
+      fails = disk.fails.items;
+      cap = disk.cap;
+      calls = disk.calls;
+      failed = disk.failed;
+    } };
 
-    ghost invariant = { λ disk. HoldsState (replayed disk.first.items disk.records.items) disk.cap disk.content disk.kept × HasRoom disk.calls disk.cap disk.records disk.blanks };
+    ghost invariant = { λ disk. HoldsState (replayed disk.first.items disk.records.items) disk.cap disk.content disk.kept
+        × HasRoom disk.calls disk.cap disk.records disk.blanks };
 }
 
 impl MemDisk {
@@ -127,7 +135,11 @@ impl MemDisk {
     {
         let copy = copy_to_blank(&mut self.blanks, self.cap, bytes);
         put(&mut self.content, at as usize, bytes);
-        note(&mut self.records, self.calls, Made::Written { at, bytes: copy });
+        note(
+            &mut self.records,
+            self.calls,
+            Made::Written { at, bytes: copy },
+        );
     }
 
     /// Keeps the content.
@@ -184,10 +196,12 @@ impl Disk for MemDisk {
     fn read_at(&mut self, at: u64, buf: &mut [u8]) -> Result<usize, Failed>
         requires { 0 < length buf.old }
         ensures fits { IfOk result (λ n. n ≤ length buf.old) }
-        ensures fills { IfOk result (λ n. ForSome (Some (content_of self.old)) (λ content. Fills content at n buf.new)) }
+        ensures fills { IfOk result (λ n. ForSome (Some (content_of self.old))
+            (λ content. Fills content at n buf.new)) }
         ensures same { Some (content_of self.new) ≡ Some (content_of self.old) }
         ensures still { SameOutcomes (MayLeave self.old) (MayLeave self.new) }
-        ensures time { Elapses (moment_of self.old) (moment_of self.new) (LeftSince self.old) (LeftSince self.new) (MayLeave self.new) }
+        ensures time { Elapses (moment_of self.old) (moment_of self.new) (LeftSince self.old) (LeftSince self.new)
+            (MayLeave self.new) }
         ensures cause { HasCause (counted self.old.failed) (counted self.new.failed) result }
         ensures failed { is_err result ≡ fails_next self.old }
         ensures ok { OnOk result (self.new ≡ with_change self.old nothing) }
@@ -202,10 +216,13 @@ impl Disk for MemDisk {
 
     fn write_at(&mut self, at: u64, bytes: &[u8]) -> Result<(), Failed>
         requires { 0 < length bytes.now }
-        ensures written { OnOk result (Some (content_of self.new) ≡ option_map (put_at at bytes.now) (Some (content_of self.old))) }
-        ensures torn { OnErr result (ForSome (Some (content_of self.old)) (λ was. BecomesTorn at (length bytes.now) was (Some (content_of self.new)))) }
+        ensures written { OnOk result (Some (content_of self.new)
+            ≡ option_map (put_at at bytes.now) (Some (content_of self.old))) }
+        ensures torn { OnErr result (ForSome (Some (content_of self.old))
+            (λ was. BecomesTorn at (length bytes.now) was (Some (content_of self.new)))) }
         ensures crash { Follows (Torn at (length bytes.now)) (MayLeave self.old) (MayLeave self.new) }
-        ensures time { Elapses (moment_of self.old) (moment_of self.new) (LeftSince self.old) (LeftSince self.new) (MayLeave self.new) }
+        ensures time { Elapses (moment_of self.old) (moment_of self.new) (LeftSince self.old) (LeftSince self.new)
+            (MayLeave self.new) }
         ensures cause { HasCause (counted self.old.failed) (counted self.new.failed) result }
         ensures failed { is_err result ≡ write_fails self.old at (length bytes.now) }
         ensures ok { OnOk result (self.new ≡ with_change self.old (written at bytes.now)) }
@@ -220,11 +237,13 @@ impl Disk for MemDisk {
     }
 
     fn sync(&mut self) -> Result<(), Failed>
-        ensures durable { OnOk result (ForSome (Some (content_of self.old)) (λ content. Only content (MayLeave self.new))) }
+        ensures durable { OnOk result (ForSome (Some (content_of self.old))
+            (λ content. Only content (MayLeave self.new))) }
         ensures still { OnErr result (SameOutcomes (MayLeave self.old) (MayLeave self.new)) }
         ensures same { Some (content_of self.new) ≡ Some (content_of self.old) }
         ensures crash { (c : List ℕ) → MayLeave self.new c → MayLeave self.old c }
-        ensures time { Elapses (moment_of self.old) (moment_of self.new) (LeftSince self.old) (LeftSince self.new) (MayLeave self.new) }
+        ensures time { Elapses (moment_of self.old) (moment_of self.new) (LeftSince self.old) (LeftSince self.new)
+            (MayLeave self.new) }
         ensures cause { HasCause (counted self.old.failed) (counted self.new.failed) result }
         ensures failed { is_err result ≡ fails_next self.old }
         ensures ok { OnOk result (self.new ≡ with_change self.old synced) }

@@ -33,7 +33,11 @@ impl Ledger {
         ensures cause { HasCause (B.faults disk.old) (B.faults disk.new) result }
     {
         let total = self.total + by;
-        settle(disk, self.current.other().place() as u64, &total.to_le_bytes())
+        settle(
+            disk,
+            self.current.other().place() as u64,
+            &total.to_le_bytes(),
+        )
     }
 
     /// Opens the gate over the new total, which is on the disk.

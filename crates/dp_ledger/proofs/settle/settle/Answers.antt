@@ -1,4 +1,4 @@
-use Rattle.std.proofs.Common.{ℕ, List, length}
+use Rattle.std.proofs.Common.{length}
 use Rattle.dp_ledger.specs.Disk.{LeavesTorn}
 use Rattle.dp_ledger.specs.DiskProof.{whole}
 use Rattle.dp_ledger.proofs.Moments.{started, goes_on}

@@ -1,4 +1,4 @@
-use Rattle.std.proofs.Common.{◌≡◌, ◌⊎◌, inl, inr, ⊎_elim, ◌+◌, ◌∙◌, ℕ, List, Bool, true, false, refl, sym, ap, subst, Some, add-zero}
+use Rattle.std.proofs.Common.{◌≡◌, ◌⊎◌, inl, inr, ◌+◌, ◌∙◌, ℕ, List, true, false, sym, ap, subst, add-zero}
 use Rattle.dp_ledger.specs.Ledger.{Shows, HasTotal, BeforeOrAfter, IsOn, is_closed, Rests}
 use Rattle.dp_ledger.specs.declared.ledger.Ledger.{Ledger}
 use Rattle.dp_ledger.specs.Image.{entry_at, is_open, other}
@@ -45,8 +45,7 @@ pub returns-clause-stands : goal.returns-clause-stands
 returns-clause-stands g c = λ _ not. record {
   not_closed = not;
   rests = λ now told.
-      let raised = at_not_err c.raise.result (sym c.if-is_err.ensures.value) c.raise.ensures.raised now told in
-      (
+      let raised = at_not_err c.raise.result (sym c.if-is_err.ensures.value) c.raise.ensures.raised now told in (
         record {
           total = raised.0.total_is;
           current = raised.0.current ∙ sym c.other-self.ensures;

@@ -1,4 +1,4 @@
-use Rattle.std.proofs.Common.{◌≡◌, ◌<◌, ◌∙◌, ℕ, [], List, length, refl, sym, ap, subst, arith, Some}
+use Rattle.std.proofs.Common.{◌≡◌, ◌∙◌, length, refl, sym, ap, subst, arith}
 use Rattle.std.proofs.lemmas.List.{nil_from_length}
 use Rattle.dp_ledger.specs.Disk.{put_at}
 use Rattle.dp_ledger.specs.Image.{new_image}
@@ -32,8 +32,7 @@ returns-clause-stands g c = record {
       let was = map_some (put_at 0 c.new_image.result) (g.B.Disk.reads c.look.new.disk) now (sym c.in_ok-settle.ensures.reads ∙ told) in
       let fills = c.in_ok-look.ensures.fills was.0 (sym c.look.ensures.same ∙ was.1) in
       let empty = nil_from_length was.0 (omega (arith, fills.count, c.if-branch-gt0.false, c.look.auto.buf)) in
-      let image : now ≡ new_image c.args.ratio = sym was.2 ∙ ap (put_at 0 c.new_image.result) empty ∙ put_on_empty c.new_image.result ∙ c.new_image.ensures in
-      (
+      let image : now ≡ new_image c.args.ratio = sym was.2 ∙ ap (put_at 0 c.new_image.result) empty ∙ put_on_empty c.new_image.result ∙ c.new_image.ensures in (
         subst (Shows _) (sym image) (record { total = new_total c.args.ratio; current = new_current c.args.ratio; other_gate = new_other c.args.ratio }),
         c.in_ok-settle.ensures.alone now told,
       );

@@ -1,6 +1,5 @@
-use Rattle.std.proofs.Common.{◌≡◌, ◌≤◌, ◌^◌, ◌∙◌, ℕ, List, length, take, refl, sym, ap, subst, Some, None, arith}
+use Rattle.std.proofs.Common.{◌≡◌, ◌∙◌, ℕ, List, length, refl, sym, ap, Some, None, arith}
 use Rattle.dp_ledger.specs.Image.{ledger_total, current_slot, entry_at, is_open, other}
-use Rattle.dp_ledger.specs.Ledger.{Shows}
 use Rattle.dp_ledger.proofs.Looking.{seen_is, seen_total, seen_none}
 use Rattle.dp_ledger.proofs.StepLaws.{some_of}
 use Rattle.dp_ledger.proofs.Totals.{total_small}
@@ -27,8 +26,7 @@ returns-clause-stands g c = record {
   rests = λ content told.
       let fills = c.in_ok-n.ensures.fills content (sym c.look.ensures.same ∙ told) in
       let room : length c.look.new.buf ≡ 27 = omega (arith, c.look.auto.buf) in
-      let is = seen_is c.args.ratio content c.look.new.buf c.in_ok-n.n room fills c.in-Some.reading.total (sym c.in-Some.ensures.total) in
-      (
+      let is = seen_is c.args.ratio content c.look.new.buf c.in_ok-n.n room fills c.in-Some.reading.total (sym c.in-Some.ensures.total) in (
         record {
           total = ap (ledger_total c.args.ratio) (sym is) ∙ sym c.in-Some.ensures.total;
           current = ap current_slot (sym is) ∙ sym c.in-Some.ensures.current;
@@ -45,3 +43,11 @@ returns-clause-acknowledged g c = λ tells left_content left.
     let room : length c.look.new.buf ≡ 27 = omega (arith, c.look.auto.buf) in
     let total = seen_total c.args.ratio content.0 c.look.new.buf c.in_ok-n.n room fills c.in-Some.reading.total (sym c.in-Some.ensures.total) in
     ap (ledger_total c.args.ratio) (c.in_ok-n.ensures.alone content.0 (c.look.ensures.same ∙ content.1) left_content left) ∙ total
+
+pub returns-clause-only_none : goal.returns-clause-only_none
+returns-clause-only_none g c = λ content told none _.
+    let fills = c.in_ok-n.ensures.fills content told in
+    let room : length c.look.new.buf ≡ 27 = omega (arith, c.look.auto.buf) in
+    let total = seen_total c.args.ratio content c.look.new.buf c.in_ok-n.n room fills c.in-Some.reading.total (sym c.in-Some.ensures.total) in
+    let wrong : None ≡ Some c.in-Some.reading.total = sym none ∙ total in
+    absurd (cc)

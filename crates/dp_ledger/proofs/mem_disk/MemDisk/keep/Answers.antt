@@ -1,5 +1,5 @@
-use Rattle.std.proofs.Common.{◌≡◌, ◌<◌, false, refl, sym, ◌∙◌, ap, arith, length}
-use Rattle.dp_ledger.specs.MemDisk.{synced, replayed, HoldsState, DiskState, MemValue, fails_next}
+use Rattle.std.proofs.Common.{◌≡◌, ◌<◌, false, sym, ◌∙◌, ap, arith, length}
+use Rattle.dp_ledger.specs.MemDisk.{synced, replayed, DiskState, MemValue, fails_next}
 use Rattle.dp_ledger.proofs.Records.{state_pushed, noted_longer, room_left}
 use Rattle.dp_ledger.proofs.mem_disk.MemDisk.keep.Goals as goal
 
@@ -11,8 +11,7 @@ invariant_of-self c =
     let goes : fails_next value ≡ false = ap fails_next c.self.view_is ∙ c.requires in
     let lt : length d.records.items < d.calls = room_left value goes in
     let state = state_pushed d.first.items d.calls d.records.items synced lt in
-    let now = ap (replayed d.first.items) c.note.ensures.noted ∙ state in
-    (
+    let now = ap (replayed d.first.items) c.note.ensures.noted ∙ state in (
       record {
         content_is = held.0.content_is ∙ ap (λ (s : DiskState). s.content) (sym now);
         kept_is = c.replace.ensures.items ∙ c.deref.ensures.value ∙ held.0.content_is ∙ ap (λ (s : DiskState). s.kept) (sym now);

@@ -1,4 +1,4 @@
-use Rattle.std.proofs.Common.{◌≡◌, ◌∙◌, length, arith, ap}
+use Rattle.std.proofs.Common.{◌∙◌, arith}
 use Rattle.dp_ledger.proofs.Records.{holds_new}
 use Rattle.dp_ledger.proofs.mem_disk.MemDisk.new.Goals as goal
 

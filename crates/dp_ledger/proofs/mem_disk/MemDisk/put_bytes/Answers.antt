@@ -1,7 +1,7 @@
-use Rattle.std.proofs.Common.{◌≡◌, ◌+◌, ◌<◌, ◌≤◌, false, refl, sym, ◌∙◌, ap, arith, length, max}
+use Rattle.std.proofs.Common.{◌≡◌, ◌<◌, false, sym, ◌∙◌, ap, arith, length}
 use Rattle.dp_ledger.specs.Disk.{put_at}
 use Rattle.dp_ledger.specs.DiskProof.{length-put_at}
-use Rattle.dp_ledger.specs.MemDisk.{written, replayed, HoldsState, DiskState, MemValue, write_fails, fails_next}
+use Rattle.dp_ledger.specs.MemDisk.{written, replayed, DiskState, MemValue, write_fails}
 use Rattle.dp_ledger.proofs.Records.{state_pushed, length_pushed, room_left, write_room}
 use Rattle.dp_ledger.proofs.mem_disk.MemDisk.put_bytes.Goals as goal
 
@@ -18,8 +18,7 @@ invariant_of-self c =
     let lt : length d.records.items < d.calls = room_left value room.1 in
     let state = state_pushed d.first.items d.calls d.records.items (written at copy) lt in
     let now = ap (replayed d.first.items) c.note.ensures.noted ∙ state in
-    let put : c.put.new.content.items ≡ put_at at copy (replayed d.first.items d.records.items).content = c.put.ensures.put ∙ (λ i. put_at at (sym c.copy_to_blank-copy.ensures.copy i) (held.0.content_is i)) in
-    (
+    let put : c.put.new.content.items ≡ put_at at copy (replayed d.first.items d.records.items).content = c.put.ensures.put ∙ (λ i. put_at at (sym c.copy_to_blank-copy.ensures.copy i) (held.0.content_is i)) in (
       record {
         content_is = put ∙ ap (λ (s : DiskState). s.content) (sym now);
         kept_is = held.0.kept_is ∙ ap (λ (s : DiskState). s.kept) (sym now);

@@ -1,4 +1,4 @@
-use Rattle.dp_ledger.specs.MemDisk.{nothing, state_of}
+use Rattle.dp_ledger.specs.MemDisk.{nothing}
 use Rattle.dp_ledger.proofs.MemLaws.{elapses_pushed, elapses_fault, pushed_state, fault_nothing, same_outcomes, same_content}
 use Rattle.dp_ledger.proofs.mem_disk.MemDiskDisk.read_at.Goals as goal
 

@@ -1,4 +1,3 @@
-use Rattle.dp_ledger.specs.Disk.{SameOutcomes}
 use Rattle.dp_ledger.specs.MemDisk.{nothing, synced, state_of}
 use Rattle.dp_ledger.proofs.MemLaws.{elapses_pushed, elapses_fault, pushed_state, fault_nothing, same_outcomes, same_content, synced_only, synced_follows}
 use Rattle.dp_ledger.proofs.mem_disk.MemDiskDisk.sync.Goals as goal
