@@ -41,6 +41,8 @@ impl Ledger {
 
         ensures telling { IsSome (B.reads disk.old) → IsSome (B.reads disk.new) }
         ensures kept { result ≡ Err CreateFault.There → B.reads disk.new ≡ B.reads disk.old }
+        ensures nothing_new { result ≡ Err CreateFault.There
+            → (c : List ℕ) → B.may_leave disk.new c → B.may_leave disk.old c }
         ensures later { B.faults disk.old ≤ B.faults disk.new }
         ensures no_fault { result ≢ Err CreateFault.DiskFault → B.faults disk.new ≡ B.faults disk.old }
         ensures cause { result ≡ Err CreateFault.DiskFault → Rose (B.faults disk.old) (B.faults disk.new) }
@@ -77,6 +79,7 @@ impl Ledger {
 
         ensures kept { B.reads disk.new ≡ B.reads disk.old }
         ensures any_moment { LeavesOnly B.moment B.left_since disk.old disk.new (B.may_leave disk.old) }
+        ensures nothing_new { (c : List ℕ) → B.may_leave disk.new c → B.may_leave disk.old c }
         ensures later { B.faults disk.old ≤ B.faults disk.new }
         ensures no_fault { result ≢ Err OpenLedgerFault.DiskFault → B.faults disk.new ≡ B.faults disk.old }
         ensures cause { result ≡ Err OpenLedgerFault.DiskFault → Rose (B.faults disk.old) (B.faults disk.new) }
@@ -138,10 +141,12 @@ impl Ledger {
         ensures stands { result ≢ Err ChargeFault.DiskFault → is_closed self.old ≡ false
             → IsOn B.reads B.may_leave disk.new self.new }
 
-        // Where the disk tells: what a crash leaves at any moment, and after `Ok`, and what a read gives.
+        // Where the disk tells: what a crash leaves at any moment, at the end, and after `Ok`, and what a read gives.
         ensures any_moment { is_closed self.old ≡ false → IsSome (B.reads disk.old)
             → LeavesOnly B.moment B.left_since disk.old disk.new
             (BeforeOrAfter (ratio_of self.old) (total_of self.old) by) }
+        ensures at_exit { is_closed self.old ≡ false → IsSome (B.reads disk.old)
+            → (c : List ℕ) → B.may_leave disk.new c → BeforeOrAfter (ratio_of self.old) (total_of self.old) by c }
         ensures acknowledged { OnOk result (IsSome (B.reads disk.old) → (c : List ℕ) → B.may_leave disk.new c
             → HasTotal (ratio_of self.old) (total_of self.old + by) c) }
         ensures reads { is_closed self.old ≡ false → IsSome (B.reads disk.old)

@@ -32,12 +32,8 @@ impl Ledger {
             (HasTotal (ratio_of self.now) (total_of self.now)) }
         ensures cause { HasCause (B.faults disk.old) (B.faults disk.new) result }
     {
-        let total = self.total + by;
-        settle(
-            disk,
-            self.current.other().place() as u64,
-            &total.to_le_bytes(),
-        )
+        let bytes = (self.total + by).to_le_bytes();
+        settle(disk, self.current.other().place() as u64, &bytes)
     }
 
     /// Opens the gate over the new total, which is on the disk.

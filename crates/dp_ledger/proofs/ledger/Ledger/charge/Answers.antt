@@ -1,4 +1,4 @@
-use Rattle.std.proofs.Common.{◌≡◌, ◌⊎◌, inl, inr, ◌+◌, ◌∙◌, ℕ, List, true, false, sym, ap, subst, add-zero}
+use Rattle.std.proofs.Common.{◌≡◌, ◌⊎◌, inl, inr, ◌+◌, ◌∙◌, ℕ, List, true, false, sym, ap, subst, Option, Some, IsSome, add-zero}
 use Rattle.dp_ledger.specs.Ledger.{Shows, HasTotal, BeforeOrAfter, IsOn, is_closed, Rests}
 use Rattle.dp_ledger.specs.declared.ledger.Ledger.{Ledger}
 use Rattle.dp_ledger.specs.Image.{entry_at, is_open, other}
@@ -61,3 +61,20 @@ returns-clause-acknowledged g c = λ tells content left.
     let now = some_of (g.B.Disk.reads c.raise.new.disk) (c.raise.ensures.passes.telling tells) in
     let raised = at_not_err c.raise.result (sym c.if-is_err.ensures.value) c.raise.ensures.raised now.0 now.1 in
     subst (HasTotal ledger.ratio (ledger.total + c.args.by)) (sym (raised.1 content left)) raised.0.total_is
+
+-- a ledger that stands is what each crash leaves
+left_now : {D : Type 0} (reads : D → Option (List ℕ)) (may_leave : D → List ℕ → Type 0) (disk : D) (ledger : Ledger) (by : ℕ) → Rests reads may_leave disk (Shows ledger) → IsSome (reads disk) → (c : List ℕ) → may_leave disk c → BeforeOrAfter ledger.ratio ledger.total by c
+left_now reads may_leave disk ledger by rests tells c left =
+    let was = some_of (reads disk) tells in
+    let is = rests was.0 was.1 in
+    inl (subst (HasTotal ledger.ratio ledger.total) (sym (is.1 c left)) is.0.total)
+
+pub returns-then-self-by-gt-MOST-clause-at_exit : goal.returns-then-self-by-gt-MOST-clause-at_exit
+returns-then-self-by-gt-MOST-clause-at_exit g c = λ not tells.
+    let d = g.B.Disk in
+    left_now d.reads d.may_leave c.args.disk.now c.args.self.now c.args.by (stands d.reads d.may_leave c.args.disk.now c.args.self.now c.requires.stands not) tells
+
+pub returns-then-by-eq0-clause-at_exit : goal.returns-then-by-eq0-clause-at_exit
+returns-then-by-eq0-clause-at_exit g c = λ not tells.
+    let d = g.B.Disk in
+    left_now d.reads d.may_leave c.args.disk.now c.args.self.now c.args.by (stands d.reads d.may_leave c.args.disk.now c.args.self.now c.requires.stands not) tells
