@@ -17,7 +17,10 @@ module _ (at : ℕ) (bytes was : List ℕ) where
 
   length-head : length head ≡ at
   unfolding head
-  length-head = omega (arith, length-append (take at was) (replicate (at - length was) 0), length-take at was, length-replicate {A = ℕ} (at - length was) 0)
+  length-head =
+      let gap = length-replicate {A = ℕ} (at - length was) 0 in
+      let sum = length-append (take at was) (replicate (at - length was) 0) in
+      omega (arith, sum, length-take at was, gap)
 
   split : put_at at bytes was ≡ head ++ (bytes ++ rest)
   unfolding put_at head rest
@@ -33,7 +36,10 @@ module _ (at : ℕ) (bytes was : List ℕ) where
 
   pub length-put_at : length (put_at at bytes was) ≡ max (length was) (at + length bytes)
   unfolding rest
-  length-put_at = omega (arith, ap length split_after, length-append (head ++ bytes) rest, length-append head bytes, length-head, length-drop (at + length bytes) was)
+  length-put_at =
+      let all = length-append (head ++ bytes) rest in
+      let start = length-append head bytes in
+      omega (arith, ap length split_after, all, start, length-head, length-drop (at + length bytes) was)
 
   -- they are one way in which that range may be torn
   pub put_torn : Torn at (length bytes) was (put_at at bytes was)
@@ -57,4 +63,6 @@ module _ (at : ℕ) (bytes was : List ℕ) where
       ∙ take_at bytes rest (length bytes) refl
 
 pub put_byte : (at byte : ℕ) (was : List ℕ) → get_or (put_at at (byte ∷ []) was) at 0 ≡ byte
-put_byte at byte was = ap (λ (l : List ℕ). get_or l at 0) (split at (byte ∷ []) was) ∙ get_or_at (head at (byte ∷ []) was) byte (rest at (byte ∷ []) was) 0 at (length-head at (byte ∷ []) was)
+put_byte at byte was =
+    ap (λ (l : List ℕ). get_or l at 0) (split at (byte ∷ []) was)
+    ∙ get_or_at (head at (byte ∷ []) was) byte (rest at (byte ∷ []) was) 0 at (length-head at (byte ∷ []) was)

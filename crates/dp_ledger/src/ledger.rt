@@ -38,6 +38,8 @@ impl Ledger {
         ensures ratio { IfOk result (λ ledger. ratio_of ledger ≡ ratio) }
         ensures zero { IfOk result (λ ledger. total_of ledger ≡ 0) }
         ensures image { OnOk result (ForSome (B.reads disk.new) (λ content. content ≡ new_image ratio)) }
+        ensures acknowledged { OnOk result (IsSome (B.reads disk.old) → (c : List ℕ) → B.may_leave disk.new c
+            → HasTotal ratio 0 c) }
 
         ensures telling { IsSome (B.reads disk.old) → IsSome (B.reads disk.new) }
         ensures kept { result ≡ Err CreateFault.There → B.reads disk.new ≡ B.reads disk.old }
@@ -131,7 +133,8 @@ impl Ledger {
         // Which refusal comes before any call of the disk, and that no other does.
         ensures refused { refused_by result ≡ refusal self.old by }
         ensures zero { refusal self.old by ≡ None → by ≡ 0 → IsOk result }
-        ensures no_call { IsSome (refusal self.old by) ⊎ (by ≡ 0) → (disk.new ≡ disk.old) × (self.new ≡ self.old) }
+        ensures no_call { IsSome (refusal self.old by) ⊎ (by ≡ 0)
+            → (disk.new ≡ disk.old) × (self.new ≡ self.old) }
 
         ensures raised { OnOk result (total_of self.new ≡ total_of self.old + by) }
         ensures kept { OnErr result (total_of self.new ≡ total_of self.old) }

@@ -42,7 +42,8 @@ impl Model for MemDisk {
       failed = disk.failed;
     } };
 
-    ghost invariant = { λ disk. HoldsState (replayed disk.first.items disk.records.items) disk.cap disk.content disk.kept
+    ghost invariant = { λ disk.
+        HoldsState (replayed disk.first.items disk.records.items) disk.cap disk.content disk.kept
         × HasRoom disk.calls disk.cap disk.records disk.blanks };
 }
 

@@ -1,4 +1,4 @@
-use Rattle.std.proofs.Common.{◌≡◌, ◌⊎◌, inl, inr, ◌+◌, ◌∙◌, ℕ, List, true, false, sym, ap, subst, Option, Some, IsSome, add-zero}
+use Rattle.std.proofs.Common.{◌≡◌, ◌⊎◌, inl, inr, ◌+◌, ◌∙◌, ℕ, List, true, false, sym, ap, subst, Option, IsSome, add-zero}
 use Rattle.dp_ledger.specs.Ledger.{Shows, HasTotal, BeforeOrAfter, IsOn, is_closed, Rests}
 use Rattle.dp_ledger.specs.declared.ledger.Ledger.{Ledger}
 use Rattle.dp_ledger.specs.Image.{entry_at, is_open, other}
