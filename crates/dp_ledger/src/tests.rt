@@ -175,5 +175,9 @@ fn a_disk_without_a_file_fails(rt: HostRuntime) -> Result<(), Fail> {
         );
         assert!(rt; disk.write_at(0, b"x").is_err());
     }
+    let mut none: FileDisk<HostRuntime> = FileDisk::none();
+    let mut buf = [0u8; 1];
+    assert!(rt; none.sync().is_err());
+    assert!(rt; none.read_at(0, &mut buf).is_err());
     Ok(())
 }
