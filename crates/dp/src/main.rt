@@ -3,13 +3,10 @@
 #![tactic(auto)]
 
 use dp_draws::NoDraws;
-use dp_io::{FileShelf, StdSink, write_all};
-use dp_runner::run_words;
+use dp_io::{FileShelf, StdSink};
+use dp_runner::{end_without_memory, run_words};
 use std::process::ExitCode;
 use std::{env, io};
-
-/// The status where memory runs out before the runner is called.
-const NO_MEMORY: u8 = 9;
 
 fn main(rt: HostRuntime) -> ExitCode {
     let alloc = rt.alloc();
@@ -18,8 +15,7 @@ fn main(rt: HostRuntime) -> ExitCode {
     let words = match words(&rt) {
         Ok(words) => words,
         Err(error) if error.kind() == io::ErrorKind::OutOfMemory => {
-            let _ = write_all(&mut err, b"dp: no memory\n");
-            return ExitCode::from(NO_MEMORY);
+            return ExitCode::from(end_without_memory(&mut err));
         }
         // A command line that is no text is of no form, as no words are.
         Err(_) => Vec::new(alloc),

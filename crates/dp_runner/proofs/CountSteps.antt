@@ -1,14 +1,14 @@
 -- The steps of `count`, one after another.
 use Rattle.std.proofs.Common.{◌≡◌, ◌∙◌, ◌^◌, ℕ, List, length, Option, Some, None, Ok, Err, refl, sym, ap}
-use Rattle.std.specs.Prelude.{ℤ, pos, option_map}
+use Rattle.std.specs.Prelude.{ℤ, option_map}
 use Rattle.std.specs.Option.{ForSome}
 use Rattle.dp_io.specs.Shelf.{Files}
-use Rattle.dp_geometric.specs.OneCell.{cell_out}
 use Rattle.dp_runner.specs.declared.stop.Stop.{Stop}
 use Rattle.dp_runner.specs.declared.stop.Stop.TheVariants as stop
-use Rattle.dp_runner.specs.Words.{CountForm}
 use Rattle.dp_runner.specs.RawRecords.{raw, raw_up_to}
-use Rattle.dp_runner.specs.Outcome.{◌>>=◌, or_stop, file_text, counted, drawn, cell_draws, count_answer}
+use Rattle.dp_runner.specs.Outcome.{◌>>=◌, or_stop}
+use Rattle.dp_runner.specs.Texts.{file_text, drawn}
+use Rattle.dp_runner.specs.Count.{CountForm, counted, cell_draws, cell_answer, count_answer}
 use Rattle.dp_runner.proofs.Steps.{bind-ok, bind-err}
 
 -- the records of a text that was read
@@ -36,7 +36,7 @@ count-no_numbers form files name draws_name n reason same same_draws records fai
 -- the draws decide
 pub count-taken : (form : CountForm) (files : Files) (name draws_name numbers : List ℕ) (n : ℕ) → name ≡ form.data_name → draws_name ≡ form.draws_name
     → counted files name ≡ Ok n → drawn files draws_name ≡ Ok numbers
-    → count_answer form files ≡ (or_stop stop.DrawFault (cell_draws form numbers) >>= (λ draws. Ok (cell_out form.lo form.hi 1 2 (pos n) draws)))
+    → count_answer form files ≡ (or_stop stop.DrawFault (cell_draws form numbers) >>= (λ draws. Ok (cell_answer form n draws)))
 unfolding count_answer
 count-taken form files name draws_name numbers n same same_draws records read =
     bind-ok (counted files form.data_name) _ n (ap (counted files) (sym same) ∙ records)

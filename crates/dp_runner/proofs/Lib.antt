@@ -1,5 +1,7 @@
+pub mod CountRuns
 pub mod CountSteps
-pub mod Lines
 pub mod RecordCounts
+pub mod RunEnds
 pub mod Steps
 pub mod WordForms
+pub mod WritesLast

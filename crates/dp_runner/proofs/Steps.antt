@@ -29,6 +29,5 @@ reason-carries stop.Usage told part whole before mid mid2 now carry early late h
 reason-carries stop.ReadFault told part whole before mid mid2 now carry early late h =
     ⊎_elim (λ rose. inl (rose-early before mid2 now (rose-late before mid mid2 early rose) late)) (λ w. inr (w.0, w.1, carry w.0 w.1 w.2)) h
 reason-carries stop.WriteFault told part whole before mid mid2 now carry early late h = h
-reason-carries stop.DrawFault told part whole before mid mid2 now carry early late h = λ files e. carry files e (h files e)
-reason-carries stop.TooLong told part whole before mid mid2 now carry early late h = λ files e. carry files e (h files e)
 reason-carries stop.NoMemory told part whole before mid mid2 now carry early late h = tt
+reason-carries _ told part whole before mid mid2 now carry early late h = λ files e. carry files e (h files e)

@@ -1,20 +1,35 @@
--- The form of five words, and of any other number of words.
-use Rattle.std.proofs.Common.{◌≡◌, ◌≢◌, ℕ, List, [], ◌∷◌, length, map, get_or, None, refl, arith}
-use Rattle.dp_runner.specs.Words.{count_words, count_form}
+-- The form of four words after `count`, and of any other number of words; and the form of a first word and others.
+use Rattle.std.proofs.Common.{◌≡◌, ◌≢◌, ◌≤◌, ℕ, List, [], ◌∷◌, ◌-◌, length, take, drop, map, get_or, None, refl, arith, length-drop}
+use Rattle.std.proofs.lemmas.List.{take_all}
+use Rattle.dp_runner.specs.Count.{count_form, count_form_of}
+use Rattle.dp_runner.specs.Forms.{form_of, form_after}
 
-pub five-words : {W : Type 0} (bytes : W → List ℕ) (words : List W) (a b c d e : W) → length words ≡ 5
-    → a ≡ get_or words 0 a → b ≡ get_or words 1 b → c ≡ get_or words 2 c → d ≡ get_or words 3 d → e ≡ get_or words 4 e
-    → count_words (map bytes words) ≡ count_form (bytes a) (bytes b) (bytes c) (bytes d) (bytes e)
-unfolding count_words
-five-words bytes (v ∷ w ∷ x ∷ y ∷ z ∷ []) a b c d e n ia ib ic id ie = rw (ia, ib, ic, id, ie) refl
-five-words bytes _ a b c d e n ia ib ic id ie = absurd (omega arith)
+pub four-words : {W : Type 0} (bytes : W → List ℕ) (words : List W) (a b c d : W) → length words ≡ 4
+    → a ≡ get_or words 0 a → b ≡ get_or words 1 b → c ≡ get_or words 2 c → d ≡ get_or words 3 d
+    → count_form (map bytes words) ≡ count_form_of (bytes a) (bytes b) (bytes c) (bytes d)
+unfolding count_form
+four-words bytes (v ∷ w ∷ x ∷ y ∷ []) a b c d n ia ib ic id = rw (ia, ib, ic, id) refl
+four-words bytes _ a b c d n ia ib ic id = absurd (omega arith)
 
-pub other-words : {W : Type 0} (bytes : W → List ℕ) (words : List W) → length words ≢ 5 → count_words (map bytes words) ≡ None
-unfolding count_words
-other-words bytes (v ∷ w ∷ x ∷ y ∷ z ∷ []) n = absurd (n refl)
+pub other-words : {W : Type 0} (bytes : W → List ℕ) (words : List W) → length words ≢ 4 → count_form (map bytes words) ≡ None
+unfolding count_form
+other-words bytes (v ∷ w ∷ x ∷ y ∷ []) n = absurd (n refl)
 other-words bytes [] n = refl
 other-words bytes (v ∷ []) n = refl
 other-words bytes (v ∷ w ∷ []) n = refl
 other-words bytes (v ∷ w ∷ x ∷ []) n = refl
-other-words bytes (v ∷ w ∷ x ∷ y ∷ []) n = refl
-other-words bytes (v ∷ w ∷ x ∷ y ∷ z ∷ more ∷ rest) n = refl
+other-words bytes (v ∷ w ∷ x ∷ y ∷ more ∷ rest) n = refl
+
+pub first-word : {W : Type 0} (bytes : W → List ℕ) (words : List W) (a : W) → 1 ≤ length words → a ≡ get_or words 0 a
+    → form_of (map bytes words) ≡ form_after (bytes a) (map bytes (drop 1 words))
+unfolding form_of
+first-word bytes (w ∷ words) a n ia = rw ia refl
+first-word bytes [] a n ia = absurd (omega arith)
+
+pub no-word : {W : Type 0} (bytes : W → List ℕ) (words : List W) → length words ≡ 0 → form_of (map bytes words) ≡ None
+unfolding form_of
+no-word bytes [] n = refl
+no-word bytes (w ∷ words) n = absurd (omega arith)
+
+pub take-rest : {W : Type 0} (words : List W) → take (length words - 1) (drop 1 words) ≡ drop 1 words
+take-rest words = take_all (length words - 1) (drop 1 words) (simp length-drop (omega arith))

@@ -1,6 +1,11 @@
 pub mod Causes
+pub mod Count
+pub mod Forms
+pub mod Laws
 pub mod Outcome
 pub mod RawRecords
 pub mod RunClauses
 pub mod Stops
+pub mod Texts
 pub mod Words
+pub mod WrittenLines

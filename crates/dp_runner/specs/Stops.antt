@@ -1,5 +1,5 @@
--- Why a run may end before its end: the statuses and their lines.
-use Rattle.std.specs.Prelude.{ℕ, List, codes}
+-- Why a run may end before its end: the table of its statuses, a row a stop.
+use Rattle.std.specs.Prelude.{ℕ, ◌==◌, ◌||◌, Bool, List, [], Option, Some, None, codes}
 use Rattle.dp_io.specs.declared.faults.OpenFault.{OpenFault}
 use Rattle.dp_io.specs.declared.faults.OpenFault.TheVariants as open_fault
 use Rattle.dp_io.specs.declared.faults.WholeFault.{WholeFault}
@@ -7,28 +7,40 @@ use Rattle.dp_io.specs.declared.faults.WholeFault.TheVariants as whole_fault
 use Rattle.dp_runner.specs.declared.stop.Stop.{Stop}
 use Rattle.dp_runner.specs.declared.stop.Stop.TheVariants as stop
 
--- the status that a run ends with
-abbrev pub status_of : Stop → ℕ
-status_of stop.Usage = 2
-status_of stop.ReadFault = 4
-status_of stop.WriteFault = 5
-status_of stop.DrawFault = 6
-status_of stop.TooLong = 7
-status_of stop.NoMemory = 9
+-- what a stop shows: the status that the run ends with, and the line that the error output gains
+pub record StopRow : Type 0 where
+  pub status : ℕ
+  pub line : List ℕ
 
--- the line that the error output gains
-abbrev pub message_of : Stop → List ℕ
-message_of stop.Usage = codes "dp: usage\n"
-message_of stop.ReadFault = codes "dp: read fault\n"
-message_of stop.WriteFault = codes "dp: write fault\n"
-message_of stop.DrawFault = codes "dp: draw fault\n"
-message_of stop.TooLong = codes "dp: too long\n"
-message_of stop.NoMemory = codes "dp: no memory\n"
+-- the table
+abbrev pub row_of : Stop → StopRow
+row_of stop.Usage = record { status = 2; line = codes "dp: usage\n" }
+row_of stop.ReadFault = record { status = 4; line = codes "dp: read fault\n" }
+row_of stop.WriteFault = record { status = 5; line = codes "dp: write fault\n" }
+row_of stop.DrawFault = record { status = 6; line = codes "dp: draw fault\n" }
+row_of stop.TooLong = record { status = 7; line = codes "dp: too long\n" }
+row_of stop.NoMemory = record { status = 9; line = codes "dp: no memory\n" }
 
+-- the status of a run that this stop ended, or that nothing stopped
+abbrev pub status_at : Option Stop → ℕ
+status_at None = 0
+status_at (Some reason) = (row_of reason).status
+
+-- the line that the error output gains, none where nothing stopped the run
+abbrev pub line_at : Option Stop → List ℕ
+line_at None = []
+line_at (Some reason) = (row_of reason).line
+
+-- the statuses of runs that wrote nothing, whatever the command and whatever the shelf tells
+abbrev pub is_silent : ℕ → Bool
+is_silent status = status == 2 || status == 3 || status == 7
+
+-- what a fault of opening a file stops a run with
 abbrev pub stop_of_open : OpenFault → Stop
 stop_of_open open_fault.Failed = stop.ReadFault
 stop_of_open open_fault.NoMemory = stop.NoMemory
 
+-- what a fault of reading a file whole stops a run with
 abbrev pub stop_of_whole : WholeFault → Stop
 stop_of_whole whole_fault.Failed = stop.ReadFault
 stop_of_whole whole_fault.TooLong = stop.TooLong

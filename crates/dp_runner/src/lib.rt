@@ -1,13 +1,15 @@
 //! The runner: all that the program `dp` does, as one call over a shelf of files, a draw source and two outputs.
 #![tactic(auto)]
 
-mod answering;
-mod command;
+mod count;
+mod form;
+pub mod laws;
 mod run;
 mod stop;
 mod tally;
+mod texts;
 
-pub use run::run_words;
+pub use run::{end_without_memory, run_words};
 
 #[cfg(test)]
 mod tests;

@@ -1,13 +1,14 @@
-ghost use Rattle.std.specs.Prelude.{◌≡◌, ◌≢◌, ◌≤◌, ◌⊎◌, ◌↔◌, map, string_bytes, None, Err, IsTrue};
+ghost use Rattle.std.specs.Prelude.{◌≡◌, ◌≢◌, ◌+◌, ◌≤◌, ◌⊎◌, ◌↔◌, map, string_bytes, Some, None, Ok, Err, OnOk, IfErr, IsTrue};
 ghost use Rattle.std.specs.Option.{ForSome};
 ghost use Rattle.dp_count.specs.Faults.{Rose, Still};
-ghost use Rattle.dp_runner.specs.Causes.{Answers, Runs, IsTold};
-ghost use Rattle.dp_runner.specs.Outcome.{line_written, written, outcome};
-ghost use Rattle.dp_runner.specs.RunClauses.{IsOutcome, IsComplete, GainsLines, GainsMessage, is_status};
-ghost use Rattle.dp_runner.specs.Words.{count_words};
+ghost use Rattle.dp_runner.specs.Causes.{Runs, Kept, IsTold};
+ghost use Rattle.dp_runner.specs.Outcome.{Source};
+ghost use Rattle.dp_runner.specs.Forms.{form_of, command, outcome};
+ghost use Rattle.dp_runner.specs.RunClauses.{IsOutcome, Ending, GainsLines, GainsMessage};
+ghost use Rattle.dp_runner.specs.Stops.{row_of, is_silent};
 
-use crate::answering::count_answer;
-use crate::command::{CountWords, count_words};
+use crate::count::run_count;
+use crate::form::{Form, form_of};
 use crate::stop::Stop;
 use dp_draws::Draws;
 use dp_io::{Shelf, Sink, write_all};
@@ -30,7 +31,8 @@ use std::alloc::Global;
 /// | 7 | `dp: too long` | exactly where DATA has more than 2^30 bytes or DRAWS more than 2^26, and no earlier fault came |
 /// | 9 | `dp: no memory` | memory ran out |
 ///
-/// The first fault ends the run. A failure of `err` does not change the status.
+/// The first fault ends the run. A failure of `err` does not change the status. A run that ends with 0 opened each file
+/// that its words name once, and raised no count of faults of the shelf or of `out`; no run opens more files.
 pub fn run_words<S: Shelf, D: Draws, K: Sink, E: Sink>(
     alloc: Global,
     words: &[String],
@@ -39,81 +41,86 @@ pub fn run_words<S: Shelf, D: Draws, K: Sink, E: Sink>(
     out: &mut K,
     err: &mut E,
 ) -> u8
-    ensures known { IsTrue (is_status result) }
+    // What ended the run, if anything did, gives the status and the line on the error output.
+    ensures ending { Ending (S.files shelf.old) (λ files. outcome (map string_bytes words.now) files (record { step = D.step; state = D.state draws.old })) result (E.held err.old) (E.held err.new) (E.faults err.old) (E.faults err.new) }
 
     // Where nothing fails, the run is its definition over whole texts.
     ensures outcome { ForSome (S.files shelf.old) (λ files. Still (S.faults shelf.old) (S.faults shelf.new) → Still (K.faults out.old) (K.faults out.new) → result ≢ 9
-        → IsOutcome (outcome (map string_bytes words.now) files (D.state draws.old)) (K.held out.old) (K.held out.new) result (D.state draws.new)) }
+        → IsOutcome (outcome (map string_bytes words.now) files (record { step = D.step; state = D.state draws.old })) (K.held out.old) (K.held out.new) result (D.state draws.new)) }
 
     // The statuses that need no failure are the definition's, whatever the counts do.
     ensures settled { result ≢ 4 → result ≢ 5 → result ≢ 9 → ForSome (S.files shelf.old) (λ files.
-        IsOutcome (outcome (map string_bytes words.now) files (D.state draws.old)) (K.held out.old) (K.held out.new) result (D.state draws.new)) }
+        IsOutcome (outcome (map string_bytes words.now) files (record { step = D.step; state = D.state draws.old })) (K.held out.old) (K.held out.new) result (D.state draws.new)) }
 
     // In every run the output gains a front of what the definition says, whole lines unless the output failed.
-    ensures front { ForSome (S.files shelf.old) (λ files. GainsLines (outcome (map string_bytes words.now) files (D.state draws.old)).bytes (K.held out.old) (K.held out.new) result) }
-    ensures nothing { result ≢ 0 → result ≢ 5 → K.held out.new ≡ K.held out.old }
-    ensures message { GainsMessage result (E.held err.old) (E.held err.new) (E.faults err.old) (E.faults err.new) }
+    ensures front { ForSome (S.files shelf.old) (λ files. GainsLines (outcome (map string_bytes words.now) files (record { step = D.step; state = D.state draws.old })).bytes (K.held out.old) (K.held out.new) result) }
+    ensures silent { IsTrue (is_silent result) → K.held out.new ≡ K.held out.old }
+    ensures nothing { IsTrue (command (map string_bytes words.now)).writes_last → result ≢ 0 → result ≢ 5 → K.held out.new ≡ K.held out.old }
 
-    ensures usage { (result ≡ 2) ↔ (count_words (map string_bytes words.now) ≡ None) }
-    ensures read_fault { result ≡ 4 → (Rose (S.faults shelf.old) (S.faults shelf.new) ⊎ IsTold (S.files shelf.old) (λ files. (outcome (map string_bytes words.now) files (D.state draws.old)).status ≡ 4)) }
+    ensures usage { (result ≡ 2) ↔ (form_of (map string_bytes words.now) ≡ None) }
+    ensures read_fault { result ≡ 4 → (Rose (S.faults shelf.old) (S.faults shelf.new) ⊎ IsTold (S.files shelf.old) (λ files. (outcome (map string_bytes words.now) files (record { step = D.step; state = D.state draws.old })).stop ≡ Some Stop.ReadFault)) }
     ensures write_fault { result ≡ 5 → Rose (K.faults out.old) (K.faults out.new) }
-    ensures draw_fault { result ≡ 6 → ForSome (S.files shelf.old) (λ files. (outcome (map string_bytes words.now) files (D.state draws.old)).status ≡ 6) }
-    ensures too_long { result ≡ 7 → ForSome (S.files shelf.old) (λ files. (outcome (map string_bytes words.now) files (D.state draws.old)).status ≡ 7) }
+    ensures draw_fault { result ≡ 6 → ForSome (S.files shelf.old) (λ files. (outcome (map string_bytes words.now) files (record { step = D.step; state = D.state draws.old })).stop ≡ Some Stop.DrawFault) }
+    ensures too_long { result ≡ 7 → ForSome (S.files shelf.old) (λ files. (outcome (map string_bytes words.now) files (record { step = D.step; state = D.state draws.old })).stop ≡ Some Stop.TooLong) }
 
-    // Where the words are of the form, the files are there and short enough, the draws are enough and nothing fails,
-    // the answer is written, unless memory runs out.
-    ensures complete { ForSome (S.files shelf.old) (λ files. Still (S.faults shelf.old) (S.faults shelf.new) → Still (K.faults out.old) (K.faults out.new)
-        → IsComplete (map string_bytes words.now) files (K.held out.old) (K.held out.new) result) }
+    // No run opens more files than its words name, and one that ends with 0 opens so many.
+    ensures opens { S.slots shelf.new ≤ S.slots shelf.old + (command (map string_bytes words.now)).files }
+    ensures opened { result ≡ 0 → S.slots shelf.new ≡ S.slots shelf.old + (command (map string_bytes words.now)).files }
 
-    // The draw source that is handed in stays as it is.
-    ensures draws { draws.new ≡ draws.old }
+    // A run that met neither a failure nor want of memory raised no count.
+    ensures kept { result ≢ 4 → result ≢ 5 → result ≢ 9 → (S.faults shelf.new ≡ S.faults shelf.old) × (K.faults out.new ≡ K.faults out.old) }
+    ensures source { IsTrue (command (map string_bytes words.now)).keeps_source → draws.new ≡ draws.old }
     ensures later { (S.faults shelf.old ≤ S.faults shelf.new) × (K.faults out.old ≤ K.faults out.new) × (E.faults err.old ≤ E.faults err.new) }
 {
-    let _ = draws;
-    match run(alloc, words, shelf, out) {
+    match run(alloc, words, shelf, draws, out) {
         Ok(()) => 0,
-        Err(stop) => {
-            let _ = write_all(err, stop.message().as_bytes());
-            stop.status()
-        }
+        Err(stop) => report(stop, err),
     }
 }
 
-/// Answers, and writes the line of the answer.
-fn run<S: Shelf, K: Sink>(
+/// Ends a run for which no memory was left before it began: writes the line of that and gives its status.
+pub fn end_without_memory<E: Sink>(err: &mut E) -> u8
+    ensures status { result ≡ (row_of Stop.NoMemory).status }
+    ensures message { GainsMessage (row_of Stop.NoMemory).line (E.held err.old) (E.held err.new) (E.faults err.old) (E.faults err.new) }
+{
+    report(Stop::NoMemory, err)
+}
+
+/// Writes the line of a stop, and gives its status.
+fn report<E: Sink>(stop: Stop, err: &mut E) -> u8
+    ensures status { result ≡ (row_of stop).status }
+    ensures message { GainsMessage (row_of stop).line (E.held err.old) (E.held err.new) (E.faults err.old) (E.faults err.new) }
+    ensures later { E.faults err.old ≤ E.faults err.new }
+{
+    let row = stop.row();
+    let _ = write_all(err, row.line.as_bytes());
+    row.status
+}
+
+/// Does what the words say: a row a command.
+fn run<S: Shelf, D: Draws, K: Sink>(
     alloc: Global,
     words: &[String],
     shelf: &mut S,
+    draws: &mut D,
     out: &mut K,
 ) -> Result<(), Stop>
-    ensures runs { Runs result (S.files shelf.old) (written (map string_bytes words.now)) (S.faults shelf.old) (S.faults shelf.new) (K.held out.old) (K.held out.new) }
-    ensures usage { (result ≡ Err Stop.Usage) ↔ (count_words (map string_bytes words.now) ≡ None) }
+    ensures runs { Runs result (S.files shelf.old) (λ files. outcome (map string_bytes words.now) files (record { step = D.step; state = D.state draws.old })) (S.faults shelf.old) (S.faults shelf.new) (K.held out.old) (K.held out.new) (D.state draws.new) }
+    ensures usage { (result ≡ Err Stop.Usage) ↔ (form_of (map string_bytes words.now) ≡ None) }
+    ensures silent { IfErr result (λ reason. IsTrue (is_silent (row_of reason).status) → K.held out.new ≡ K.held out.old) }
+    ensures nothing { IsTrue (command (map string_bytes words.now)).writes_last → result ≢ Ok tt → result ≢ Err Stop.WriteFault → K.held out.new ≡ K.held out.old }
+    ensures opens { S.slots shelf.new ≤ S.slots shelf.old + (command (map string_bytes words.now)).files }
+    ensures opened { OnOk result (S.slots shelf.new ≡ S.slots shelf.old + (command (map string_bytes words.now)).files) }
+    ensures source { IsTrue (command (map string_bytes words.now)).keeps_source → draws.new ≡ draws.old }
+    ensures later { S.faults shelf.old ≤ S.faults shelf.new }
+    ensures kept { Kept result (S.faults shelf.old) (S.faults shelf.new) }
     ensures write_fault { result ≡ Err Stop.WriteFault → Rose (K.faults out.old) (K.faults out.new) }
-    ensures later { S.faults shelf.old ≤ S.faults shelf.new }
     ensures out_later { K.faults out.old ≤ K.faults out.new }
+    ensures out_kept { result ≢ Err Stop.WriteFault → K.faults out.new ≡ K.faults out.old }
 {
-    let Some(words) = count_words(words) else {
-        return Err(Stop::Usage);
-    };
-    let line = answer_line(alloc, &words, shelf)?;
-    match write_all(out, line.as_bytes()) {
-        Ok(()) => Ok(()),
-        Err(_) => Err(Stop::WriteFault),
-    }
-}
-
-/// The line of the answer, with its line feed.
-fn answer_line<S: Shelf>(
-    alloc: Global,
-    words: &CountWords<'_>,
-    shelf: &mut S,
-) -> Result<String, Stop>
-    ensures answers { Answers result string_bytes (S.files shelf.old) (line_written words.now) (S.faults shelf.old) (S.faults shelf.new) }
-    ensures later { S.faults shelf.old ≤ S.faults shelf.new }
-{
-    let answer = count_answer(alloc, words, shelf)?;
-    match format!(in alloc; "answer {answer}\n") {
-        Ok(line) => Ok(line),
-        Err(_) => Err(Stop::NoMemory),
+    let _ = draws;
+    match form_of(words) {
+        None => Err(Stop::Usage),
+        Some(Form::Count(form)) => run_count(alloc, &form, shelf, out),
     }
 }

@@ -1,5 +1,5 @@
 ghost use Rattle.std.specs.Prelude.{◌≡◌};
-ghost use Rattle.dp_runner.specs.Stops.{status_of, message_of};
+ghost use Rattle.dp_runner.specs.Stops.{row_of};
 ghost use Rattle.dp_runner.specs.declared.stop.Stop.TheVariants as stop;
 
 use dp_count::{Failed, NoMemory};
@@ -22,33 +22,30 @@ pub(crate) enum Stop {
     NoMemory,
 }
 
-impl Stop {
+/// What a stop shows.
+#[derive(Clone, Copy, Debug, PartialEq, Eq)]
+pub(crate) struct StopRow {
     /// The status that the program ends with.
-    pub(crate) fn status(self) -> u8
-        ensures { result ≡ status_of self }
-    {
-        match self {
-            Stop::Usage => 2,
-            Stop::ReadFault => 4,
-            Stop::WriteFault => 5,
-            Stop::DrawFault => 6,
-            Stop::TooLong => 7,
-            Stop::NoMemory => 9,
-        }
-    }
-
+    pub(crate) status: u8,
     /// The line on the error output, with its line feed.
-    pub(crate) fn message(self) -> &'static str
-        ensures { result.now ≡ message_of self }
+    pub(crate) line: &'static str,
+}
+
+impl Stop {
+    /// The table of the stops.
+    pub(crate) fn row(self) -> StopRow
+        ensures status { result.status ≡ (row_of self).status }
+        ensures line { result.line.now ≡ (row_of self).line }
     {
-        match self {
-            Stop::Usage => "dp: usage\n",
-            Stop::ReadFault => "dp: read fault\n",
-            Stop::WriteFault => "dp: write fault\n",
-            Stop::DrawFault => "dp: draw fault\n",
-            Stop::TooLong => "dp: too long\n",
-            Stop::NoMemory => "dp: no memory\n",
-        }
+        let (status, line) = match self {
+            Stop::Usage => (2, "dp: usage\n"),
+            Stop::ReadFault => (4, "dp: read fault\n"),
+            Stop::WriteFault => (5, "dp: write fault\n"),
+            Stop::DrawFault => (6, "dp: draw fault\n"),
+            Stop::TooLong => (7, "dp: too long\n"),
+            Stop::NoMemory => (9, "dp: no memory\n"),
+        };
+        StopRow { status, line }
     }
 }
 

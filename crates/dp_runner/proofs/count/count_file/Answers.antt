@@ -1,7 +1,7 @@
 use Rattle.std.proofs.Common.{◌∙◌, ◌^◌, ap, length}
 use Rattle.dp_runner.specs.RawRecords.{raw_up_to}
 use Rattle.dp_runner.proofs.CountSteps.{counted-ok}
-use Rattle.dp_runner.proofs.answering.count_file.Goals as goal
+use Rattle.dp_runner.proofs.count.count_file.Goals as goal
 
 pub returns-clause-answers : goal.returns-clause-answers
 returns-clause-answers g c =

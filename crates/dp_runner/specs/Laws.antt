@@ -1,0 +1,25 @@
+-- Where a run does its work: a law a command. Its words are of its form, its files are there and within their limits,
+-- and its draws are enough.
+use Rattle.std.specs.Prelude.{◌≡◌, ◌≤◌, ◌^◌, ℕ, List, length, Some, None}
+use Rattle.dp_io.specs.Shelf.{Files}
+use Rattle.dp_draws.specs.Numbers.{drawn_numbers}
+use Rattle.dp_runner.specs.declared.form.Form.TheVariants as form
+use Rattle.dp_runner.specs.Outcome.{Source, Outcome}
+use Rattle.dp_runner.specs.Count.{CountForm, cell_draws, cell_answer, answer_line}
+use Rattle.dp_runner.specs.Forms.{form_of, outcome}
+use Rattle.dp_runner.specs.RawRecords.{raw}
+
+-- what a run did that nothing stopped
+pub record IsDone (outcome : Outcome) (bytes last : List ℕ) : Type 0 where
+  pub bytes_are : outcome.bytes ≡ bytes
+  pub stop_is : outcome.stop ≡ None
+  pub last_is : outcome.last ≡ last
+
+-- `count` writes the line of its answer, ends with 0 and leaves the draw source that is handed in as it was
+abbrev pub CountLaw : Type 0
+CountLaw = (words : List (List ℕ)) (files : Files) (source : Source) (count : CountForm) (text numbers draws : List ℕ)
+    → form_of words ≡ Some (form.Count count)
+    → files count.data_name ≡ Some text → length text ≤ 2 ^ 30
+    → files count.draws_name ≡ Some numbers → length numbers ≤ 2 ^ 26
+    → cell_draws count (drawn_numbers numbers) ≡ Some draws
+    → IsDone (outcome words files source) (answer_line (cell_answer count (length (raw text)) draws)) source.state
