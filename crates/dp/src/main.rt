@@ -5,11 +5,15 @@
 use dp_draws::NoDraws;
 use dp_io::{FileShelf, StdSink};
 use dp_runner::{end_without_memory, run_words};
+use std::fs::File;
 use std::process::ExitCode;
-use std::{env, io};
+use std::{env, fs, io};
 
 fn main(rt: HostRuntime) -> ExitCode {
     let alloc = rt.alloc();
+    // The shelf looks whether the standard input is there before anything can take its place.
+    let mut shelf = FileShelf::new(&rt, alloc);
+    let _held = hold_streams(&rt);
     let mut out = StdSink::out(&rt);
     let mut err = StdSink::err(&rt);
     let words = match words(&rt) {
@@ -20,7 +24,6 @@ fn main(rt: HostRuntime) -> ExitCode {
         // A command line that is no text is of no form, as no words are.
         Err(_) => Vec::new(alloc),
     };
-    let mut shelf = FileShelf::new(rt, alloc);
     let status = run_words(
         alloc,
         &words,
@@ -30,6 +33,16 @@ fn main(rt: HostRuntime) -> ExitCode {
         &mut err,
     );
     ExitCode::from(status)
+}
+
+/// Opens `/dev/null` for reading alone, so often that none of the three standard streams is free after it. A file that
+/// is opened later then never takes the place of a closed stream, and a write to a closed output still fails.
+fn hold_streams(rt: &HostRuntime) -> [io::Result<File>; 3] {
+    [
+        fs::open(rt, "/dev/null"),
+        fs::open(rt, "/dev/null"),
+        fs::open(rt, "/dev/null"),
+    ]
 }
 
 /// The words of the command line without the program's own name.

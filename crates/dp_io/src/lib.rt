@@ -7,6 +7,7 @@ mod faults;
 mod file_shelf;
 mod mem_shelf;
 mod mem_sink;
+mod retrying;
 mod shelf;
 mod sink;
 mod slot;

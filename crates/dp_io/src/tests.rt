@@ -2,9 +2,11 @@ ghost use Rattle.std.specs.Prelude.{◌≡◌, ◌<◌, [], length, None, string
 ghost use Rattle.dp_io.specs.MemShelf.{bytes_of};
 
 use super::*;
+use crate::retrying::read_retrying;
 use std::alloc::Global;
-use std::fs;
+use std::io::{ErrorKind, Read, Write};
 use std::test::Fail;
+use std::{fs, io};
 
 /// A shelf in memory with one file, "data", of the three bytes "xyz".
 fn shelf_with_data(alloc: Global, piece: usize, fails: Vec<u64>) -> Result<MemShelf, Fail>
@@ -108,5 +110,61 @@ fn file_shelf_reads_a_file(rt: HostRuntime) -> Result<(), Fail> {
 fn standard_streams_take_a_line(rt: HostRuntime) -> Result<(), Fail> {
     write_all(&mut StdSink::out(&rt), b"written to the standard output\n")?;
     write_all(&mut StdSink::err(&rt), b"written to the standard error\n")?;
+    Ok(())
+}
+
+/// A reader that gives the byte `x`, and a writer that takes all, after so many calls that a signal interrupts.
+#[derive(Drop)]
+struct Interrupted {
+    calls: u32,
+}
+
+impl Interrupted {
+    /// Counts a call.
+    fn count(&mut self) -> io::Result<()> {
+        if self.calls > 0 {
+            self.calls -= 1;
+            return Err(io::Error::from(ErrorKind::Interrupted));
+        }
+        Ok(())
+    }
+}
+
+impl Read for Interrupted {
+    fn read(&mut self, buf: &mut [u8]) -> io::Result<usize> {
+        self.count()?;
+        let Some(first) = buf.first_mut() else {
+            return Ok(0);
+        };
+        *first = b'x';
+        Ok(1)
+    }
+}
+
+impl Write for Interrupted {
+    fn write(&mut self, buf: &[u8]) -> io::Result<usize> {
+        self.count()?;
+        Ok(buf.len())
+    }
+
+    fn flush(&mut self) -> io::Result<()> {
+        Ok(())
+    }
+}
+
+#[test]
+fn interrupted_calls_are_tried_again_a_thousand_times(rt: HostRuntime) -> Result<(), Fail> {
+    for (calls, succeeds) in [(0, true), (1_000, true), (1_001, false)] {
+        let mut buf = [0u8; 2];
+        let read = read_retrying(&mut Interrupted { calls }, &mut buf);
+        assert_eq!(rt; read.is_ok(), succeeds, "a read after {calls}");
+        assert_eq!(rt; buf[0] == b'x', succeeds);
+        let mut sink = StdSink::new(Interrupted { calls });
+        assert_eq!(rt;
+            write_all(&mut sink, b"ab").is_ok(),
+            succeeds,
+            "a write after {calls}"
+        );
+    }
     Ok(())
 }
