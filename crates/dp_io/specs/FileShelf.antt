@@ -1,5 +1,5 @@
 -- What a shelf of real files shows.
-use Rattle.std.specs.Prelude.{◌≡◌, ℕ, Bool, true, List, [], ◌∷◌, ◌++◌, Option, None, slice_get, codes, bytes_eq, option_and_then}
+use Rattle.std.specs.Prelude.{◌≡◌, ℕ, Bool, true, List, [], ◌∷◌, ◌++◌, Option, slice_get, codes, bytes_eq, option_and_then}
 
 -- an open slot: whether it reads the standard input, and what is left of it, where its reader tells that
 pub record OpenSource : Type 0 where

@@ -34,7 +34,7 @@ pub fn read_whole<S: Shelf>(
 {
     let mut buffer = new_buffer(alloc)?;
     let mut bytes = Vec::new(alloc);
-    loop {
+    'pieces: loop {
         let n = shelf.read(slot, &mut buffer)?;
         if n == 0 {
             return Ok(bytes);

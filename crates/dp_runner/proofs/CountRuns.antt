@@ -1,27 +1,27 @@
 -- What a run of `count` writes.
-use Rattle.std.proofs.Common.{◌≡◌, ◌∙◌, ◌≤◌, ◌^◌, ℕ, true, List, [], ◌∷◌, ◌++◌, length, Option, Some, None, Result, Ok, Err, refl, sym, ap, inl, inr, append_assoc, subst}
+use Rattle.std.proofs.Common.{◌≡◌, ◌∙◌, ◌≤◌, ◌^◌, ℕ, true, List, [], ◌∷◌, ◌++◌, length, Option, Some, Result, Ok, Err, refl, sym, ap, append_assoc, subst}
 use Rattle.std.specs.Prelude.{ℤ, codes}
 use Rattle.std.specs.Option.{ForSome}
 use Rattle.std.specs.Fmt.{signed_decimal}
 use Rattle.std.proofs.lemmas.Bool.{le-leb}
 use Rattle.dp_io.specs.Shelf.{Files}
-use Rattle.dp_io.specs.Sink.{appended, AddsFront}
+use Rattle.dp_io.specs.Sink.{appended}
 use Rattle.dp_draws.specs.Numbers.{drawn_numbers}
 use Rattle.dp_runner.specs.declared.form.Form.{Form}
 use Rattle.dp_runner.specs.declared.form.Form.TheVariants as form
 use Rattle.dp_runner.specs.declared.stop.Stop.{Stop}
 use Rattle.dp_runner.specs.declared.stop.Stop.TheVariants as stop
 use Rattle.dp_runner.specs.RawRecords.{raw}
-use Rattle.dp_runner.specs.Outcome.{Source, Outcome, ◌>>=◌, or_stop, written_last}
+use Rattle.dp_runner.specs.Outcome.{Source, ◌>>=◌, or_stop, written_last}
 use Rattle.dp_runner.specs.Texts.{text_within, file_text, drawn}
 use Rattle.dp_runner.specs.Count.{CountForm, counted, cell_draws, cell_answer, count_answer, answer_line, count_written}
 use Rattle.dp_runner.specs.Forms.{form_of, command_if, outcome}
-use Rattle.dp_runner.specs.Causes.{HasReason, Runs}
+use Rattle.dp_runner.specs.Causes.{Runs}
 use Rattle.dp_runner.specs.WrittenLines.{are_lines}
 use Rattle.dp_runner.specs.Laws.{IsDone}
 use Rattle.dp_runner.proofs.Steps.{bind-ok, bind-err}
 use Rattle.dp_runner.proofs.CountSteps.{count-taken}
-use Rattle.dp_runner.proofs.WritesLast.{runs-all, runs-front}
+use Rattle.dp_runner.proofs.WritesLast.{runs-all}
 
 pub line-no_answer : (form : CountForm) (files : Files) (reason : Stop) → count_answer form files ≡ Err reason → count_written form files ≡ Err reason
 unfolding count_written

@@ -1,12 +1,12 @@
 -- A command that writes all at its end, and nothing where it ends early.
-use Rattle.std.proofs.Common.{◌≡◌, ℕ, true, List, [], ◌++◌, Option, Some, None, Result, Ok, Err, refl, sym, ap, inl, inr}
+use Rattle.std.proofs.Common.{◌≡◌, ℕ, true, List, [], Option, Some, None, Result, Ok, Err, refl, sym, ap, inl, inr}
 use Rattle.std.specs.Option.{ForSome}
 use Rattle.std.proofs.lemmas.List.{append-nil}
 use Rattle.dp_io.specs.Shelf.{Files}
 use Rattle.dp_io.specs.Sink.{appended, AddsFront}
 use Rattle.dp_runner.specs.declared.stop.Stop.{Stop}
 use Rattle.dp_runner.specs.declared.stop.Stop.TheVariants as stop
-use Rattle.dp_runner.specs.Outcome.{Source, Outcome, written_last}
+use Rattle.dp_runner.specs.Outcome.{Source, written_last}
 use Rattle.dp_runner.specs.Causes.{HasReason, HasDone, Runs}
 use Rattle.dp_runner.specs.WrittenLines.{are_lines, AddsLines}
 

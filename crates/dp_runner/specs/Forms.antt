@@ -1,5 +1,5 @@
 -- The forms of words that a run takes, and what a run of any words does: a row a command.
-use Rattle.std.specs.Prelude.{ℕ, Bool, true, List, [], ◌∷◌, Option, Some, None, if◌then◌else◌, option_map, codes}
+use Rattle.std.specs.Prelude.{ℕ, true, List, [], ◌∷◌, Option, Some, None, if◌then◌else◌, option_map, codes}
 use Rattle.std.specs.Str.{bytes_eq}
 use Rattle.dp_io.specs.Shelf.{Files}
 use Rattle.dp_runner.specs.declared.form.Form.{Form}

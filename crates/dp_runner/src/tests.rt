@@ -1,5 +1,6 @@
-use crate::run_words;
+use crate::laws::count_law;
 use crate::tally::count_records;
+use crate::{end_without_memory, run_words};
 use dp_draws::NoDraws;
 use dp_io::{MemShelf, MemSink};
 use std::process::Abort;
@@ -13,10 +14,39 @@ struct Shown {
     err: Vec<u8>,
 }
 
-/// A run over a shelf in memory with the files `data` and `draws`, read and written a few bytes at a time.
-fn run(rt: &impl AllocGlobal, words: &[&str], data: &[u8], draws: &[u8]) -> Result<Shown, Fail> {
+/// Which calls of a run's objects fail, by their number from 1, and none where it is 0; and whether the objects read and
+/// write all at once, or a few bytes at a time.
+#[derive(Clone, Copy, Drop)]
+struct Calls {
+    shelf: u64,
+    out: u64,
+    err: u64,
+    whole: bool,
+}
+
+/// A few bytes at a time, and no failure.
+const NO_FAILURE: Calls = Calls {
+    shelf: 0,
+    out: 0,
+    err: 0,
+    whole: false,
+};
+
+/// A run over a shelf in memory with the files `data` and `draws`.
+fn run_with(
+    rt: &impl AllocGlobal,
+    words: &[&str],
+    data: &[u8],
+    draws: &[u8],
+    calls: Calls,
+) -> Result<Shown, Fail> {
     let alloc = rt.alloc();
-    let mut shelf = MemShelf::new(alloc, 7, Vec::new(alloc));
+    let (read, written, told) = if calls.whole {
+        (1 << 20, 64, 64)
+    } else {
+        (7, 3, 5)
+    };
+    let mut shelf = MemShelf::new(alloc, read, vec![in alloc; calls.shelf]?);
     shelf.add(
         String::from_str(alloc, "data")?,
         Vec::from_slice(alloc, data)?,
@@ -25,8 +55,8 @@ fn run(rt: &impl AllocGlobal, words: &[&str], data: &[u8], draws: &[u8]) -> Resu
         String::from_str(alloc, "draws")?,
         Vec::from_slice(alloc, draws)?,
     )?;
-    let mut out = MemSink::new(alloc, 3, Vec::new(alloc), 64)?;
-    let mut err = MemSink::new(alloc, 5, Vec::new(alloc), 64)?;
+    let mut out = MemSink::new(alloc, written, vec![in alloc; calls.out]?, 64)?;
+    let mut err = MemSink::new(alloc, told, vec![in alloc; calls.err]?, 64)?;
     let mut given = Vec::new(alloc);
     for word in words {
         given.push(String::from_str(alloc, word)?)?;
@@ -44,6 +74,11 @@ fn run(rt: &impl AllocGlobal, words: &[&str], data: &[u8], draws: &[u8]) -> Resu
         out: Vec::from_slice(alloc, out.held())?,
         err: Vec::from_slice(alloc, err.held())?,
     })
+}
+
+/// A run in which no call fails, read and written a few bytes at a time.
+fn run(rt: &impl AllocGlobal, words: &[&str], data: &[u8], draws: &[u8]) -> Result<Shown, Fail> {
+    run_with(rt, words, data, draws, NO_FAILURE)
 }
 
 /// That a count over these texts and this range writes one line and nothing else.
@@ -258,5 +293,101 @@ fn counting_stops_at_the_limit(rt: HostRuntime) -> Result<(), Fail> {
     assert_eq!(rt; count_records(rt.alloc(), b"a\nb\nc\n", 2)?, 2);
     assert_eq!(rt; count_records(rt.alloc(), b"a\nb\nc\n", 3)?, 3);
     assert_eq!(rt; count_records(rt.alloc(), b"a\nb\nc\n", 4)?, 3);
+    Ok(())
+}
+
+/// The words of a count of the file `data`.
+const COUNT: [&str; 5] = ["count", "data", "draws", "0", "5"];
+
+/// What a run shows of a count of three records whose noise is 0, where such calls fail.
+fn count_with(rt: &impl AllocGlobal, calls: Calls) -> Result<Shown, Fail> {
+    run_with(rt, &COUNT, b"a\nb\nc\n", b"0 0 0 0 0 0", calls)
+}
+
+/// The calls of the shelf, with 7 bytes a read: DATA is opened and read (6 bytes, none), DRAWS is opened and read (7
+/// bytes, 4, none).
+const SHELF_CALLS: u64 = 7;
+
+#[test]
+fn each_call_of_the_shelf_that_fails_is_a_read_fault(rt: HostRuntime) -> Result<(), Fail> {
+    for call in 1..=SHELF_CALLS {
+        let shown = count_with(
+            &rt,
+            Calls {
+                shelf: call,
+                ..NO_FAILURE
+            },
+        )?;
+        assert_eq!(rt; shown.status, 4, "call {call}");
+        assert!(rt; shown.out.is_empty());
+        assert_eq!(rt; shown.err.as_slice(), b"dp: read fault\n".as_slice());
+    }
+    let shown = count_with(
+        &rt,
+        Calls {
+            shelf: SHELF_CALLS + 1,
+            ..NO_FAILURE
+        },
+    )?;
+    assert_eq!(rt; shown.status, 0);
+    assert_eq!(rt; shown.out.as_slice(), b"answer 3\n".as_slice());
+    Ok(())
+}
+
+#[test]
+fn a_call_of_an_output_that_fails(rt: HostRuntime) -> Result<(), Fail> {
+    let write_fault = b"dp: write fault\n".as_slice();
+    let answer = b"answer 3\n".as_slice();
+    for (out, err, whole, status, held, told) in [
+        (1, 0, true, 5, b"".as_slice(), write_fault),
+        (2, 0, false, 5, b"ans".as_slice(), write_fault),
+        (3, 0, false, 5, b"answer".as_slice(), write_fault),
+        (4, 0, false, 0, answer, b"".as_slice()),
+        (2, 0, true, 0, answer, b"".as_slice()),
+        (1, 1, true, 5, b"".as_slice(), b"".as_slice()),
+        (1, 2, false, 5, b"".as_slice(), b"dp: w".as_slice()),
+        (1, 2, true, 5, b"".as_slice(), write_fault),
+        (0, 1, true, 0, answer, b"".as_slice()),
+    ] {
+        let calls = Calls {
+            out,
+            err,
+            whole,
+            ..NO_FAILURE
+        };
+        let shown = count_with(&rt, calls)?;
+        assert_eq!(rt; shown.status, status, "out {out}, err {err}");
+        assert_eq!(rt; shown.out.as_slice(), held, "out {out}, err {err}");
+        assert_eq!(rt; shown.err.as_slice(), told, "out {out}, err {err}");
+    }
+    Ok(())
+}
+
+#[test]
+fn draws_of_more_than_their_limit_are_too_long(rt: HostRuntime) -> Result<(), Fail> {
+    let alloc = rt.alloc();
+    let calls = Calls {
+        whole: true,
+        ..NO_FAILURE
+    };
+    let mut draws = vec![in alloc; b'0'; (1 << 26) + 1]?;
+    let shown = run_with(&rt, &COUNT, b"a\n", draws.as_slice(), calls)?;
+    assert_eq!(rt; shown.status, 7);
+    assert!(rt; shown.out.is_empty());
+    assert_eq!(rt; shown.err.as_slice(), b"dp: too long\n".as_slice());
+    draws.truncate(1 << 26);
+    let shown = run_with(&rt, &COUNT, b"a\n", draws.as_slice(), calls)?;
+    assert_eq!(rt; shown.status, 6);
+    assert_eq!(rt; shown.err.as_slice(), b"dp: draw fault\n".as_slice());
+    Ok(())
+}
+
+#[test]
+fn a_run_without_memory_ends_with_its_line(rt: HostRuntime) -> Result<(), Fail> {
+    count_law();
+    let alloc = rt.alloc();
+    let mut err = MemSink::new(alloc, 5, Vec::new(alloc), 64)?;
+    assert_eq!(rt; end_without_memory(&mut err), 9);
+    assert_eq!(rt; err.held(), b"dp: no memory\n".as_slice());
     Ok(())
 }

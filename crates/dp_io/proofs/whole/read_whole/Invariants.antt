@@ -2,8 +2,8 @@ use Rattle.std.proofs.Common.{◌≡◌, ◌≢◌, ℕ, ◌<◌, ◌≤◌, ◌
 use Rattle.dp_io.specs.Shelf.{preceded}
 use Rattle.dp_io.proofs.whole.read_whole.Given as goal
 
-abbrev pub invariant-loop-bytes : goal.invariant-loop-bytes
-invariant-loop-bytes g l =
+abbrev pub invariant-pieces : goal.invariant-pieces
+invariant-pieces g l =
     (length l.bytes.items ≤ l.limit)
     × (0 < length l.buffer.items)
     × (g.S.Shelf.slots l.shelf ≡ g.S.Shelf.slots l.initial.shelf)
@@ -12,5 +12,5 @@ invariant-loop-bytes g l =
     × ((n : ℕ) → n ≢ l.slot → g.S.Shelf.left l.shelf n ≡ g.S.Shelf.left l.initial.shelf n)
     × (g.S.Shelf.left l.initial.shelf l.slot ≡ preceded l.bytes.items (g.S.Shelf.left l.shelf l.slot))
 
-abbrev pub decreases-loop-bytes : goal.decreases-loop-bytes
-decreases-loop-bytes g l = l.limit - length l.bytes.items
+abbrev pub decreases-pieces : goal.decreases-pieces
+decreases-pieces g l = l.limit - length l.bytes.items

@@ -1,6 +1,3 @@
-use Rattle.std.proofs.Common.{map}
-use Rattle.std.specs.Prelude.{string_bytes}
-use Rattle.dp_runner.specs.Forms.{outcome}
 use Rattle.dp_runner.proofs.RunEnds.{done-lines, early-lines, early-ending}
 use Rattle.dp_runner.proofs.run.run_words.Goals as goal
 
