@@ -1,0 +1,93 @@
+#!/usr/bin/env bash
+# Runs the built program on real files and streams, and compares its status and all that it writes. It is for what no
+# contract can say: what a file, a pipe or a closed stream gives and takes. Its last line is `N passed, M failed`.
+cd "$(dirname "$0")/.." || exit 1
+here=$(pwd)
+work=$(mktemp -d) || exit 1
+trap 'rm -rf "$work"' EXIT
+passed=0
+failed=0
+
+# case_of NAME STATUS OUTPUT ERROR COMMAND: what COMMAND, in the folder of the files, has to end with and to write. OUTPUT
+# and ERROR are without their last line feed.
+case_of() {
+    (eval "$5") >"$work/out" 2>"$work/err" </dev/null
+    local status=$?
+    local wanted_out=$3 wanted_err=$4
+    if [ -n "$3" ]; then wanted_out+=$'\n'; fi
+    if [ -n "$4" ]; then wanted_err+=$'\n'; fi
+    if [ "$status" -eq "$2" ] && printf '%s' "$wanted_out" | cmp -s - "$work/out" &&
+        printf '%s' "$wanted_err" | cmp -s - "$work/err"; then
+        passed=$((passed + 1))
+    else
+        failed=$((failed + 1))
+        echo "program: $1: FAILED, status $status"
+        sed 's/^/    out: /' "$work/out"
+        sed 's/^/    err: /' "$work/err"
+    fi
+}
+
+# The launcher builds the program where it is not built or is older than a source.
+"$here/dp" >/dev/null 2>&1
+dp=$here/crates/dp/out/dp
+if [ ! -x "$dp" ]; then
+    echo "program: there is no built program"
+    echo "0 passed, 1 failed"
+    exit 1
+fi
+
+mkdir "$work/files" && cd "$work/files" || exit 1
+printf 'a\nb\nc\n' >data
+printf '0 0 0 0 0 0\n' >draws
+printf '0 0 0 0 0\n' >few
+mkdir folder
+mkfifo fifo
+truncate -s 67108865 long
+truncate -s 67108864 large
+
+# The statuses and their lines.
+case_of 'an answer' 0 'answer 3' '' '"$dp" count data draws 0 5'
+case_of 'no words' 2 '' 'dp: usage' '"$dp"'
+case_of 'words of no form' 2 '' 'dp: usage' '"$dp" count data draws 5 0'
+case_of 'a word that is no text' 2 '' 'dp: usage' '"$dp" count data draws 0 $'"'"'\xff'"'"
+case_of 'too few draws' 6 '' 'dp: draw fault' '"$dp" count data few 0 5'
+case_of 'a file of draws that is too long' 7 '' 'dp: too long' '"$dp" count data long 0 5'
+case_of 'too little memory' 9 '' 'dp: no memory' 'ulimit -v 60000; "$dp" count large draws 0 5'
+
+# Files.
+case_of 'a missing file of records' 4 '' 'dp: read fault' '"$dp" count missing draws 0 5'
+case_of 'a missing file of draws' 4 '' 'dp: read fault' '"$dp" count data missing 0 5'
+case_of 'a folder' 4 '' 'dp: read fault' '"$dp" count folder draws 0 5'
+case_of 'an empty file' 0 'answer 0' '' '"$dp" count /dev/null draws 0 5'
+case_of 'a named pipe' 0 'answer 3' '' 'cat data >fifo & "$dp" count fifo draws 0 5'
+touch secret && chmod 000 secret
+if [ -r secret ]; then
+    echo "program: an unreadable file: left out, since this user reads every file"
+else
+    case_of 'an unreadable file' 4 '' 'dp: read fault' '"$dp" count secret draws 0 5'
+fi
+
+# The standard input.
+case_of 'the standard input' 0 'answer 3' '' '"$dp" count - draws 0 5 <data'
+case_of 'a file named -' 0 'answer 3' '' 'printf "x\n" >-; "$dp" count - draws 0 5 <data'
+case_of 'draws on the standard input' 0 'answer 3' '' '"$dp" count data - 0 5 <draws'
+case_of 'a pipe in pieces' 0 'answer 4' '' '{ printf "a\nb"; sleep 0.1; printf "\nc\n"; sleep 0.1; printf "d\n"; } | "$dp" count - draws 0 5'
+case_of 'a closed standard input' 4 '' 'dp: read fault' '"$dp" count - draws 0 5 <&-'
+case_of 'draws on a closed standard input' 4 '' 'dp: read fault' '"$dp" count data - 0 5 <&-'
+case_of 'a closed standard input that is not read' 0 'answer 3' '' '"$dp" count data draws 0 5 <&-'
+case_of 'a folder as the standard input' 4 '' 'dp: read fault' '"$dp" count - draws 0 5 <folder'
+case_of 'a standard input for writing alone' 4 '' 'dp: read fault' '"$dp" count - draws 0 5 0>written'
+
+# The outputs.
+case_of 'an output that is full' 5 '' 'dp: write fault' '"$dp" count data draws 0 5 >/dev/full'
+case_of 'a closed output' 5 '' 'dp: write fault' '"$dp" count data draws 0 5 >&-'
+case_of 'an output for reading alone' 5 '' 'dp: write fault' '"$dp" count data draws 0 5 1<data'
+case_of 'a closed error output' 4 '' '' '"$dp" count missing draws 0 5 2>&-'
+case_of 'a closed error output that is not needed' 0 'answer 3' '' '"$dp" count data draws 0 5 2>&-'
+case_of 'an error output that is full' 2 '' '' '"$dp" 2>/dev/full'
+case_of 'all streams closed' 5 '' '' '"$dp" count data draws 0 5 <&- >&- 2>&-'
+case_of 'a pipe that its reader closed' 5 '' 'dp: write fault' '{ sleep 0.2; "$dp" count data draws 0 5; echo $? >status; } | true; exit $(cat status)'
+case_of 'the files are as they were' 0 'a b c 0 0 0 0 0 0' '' 'echo $(cat data draws)'
+
+echo "$passed passed, $failed failed"
+[ "$failed" -eq 0 ]
