@@ -18,7 +18,8 @@ LacksFile (Some files) name = files name ≡ None
 -- where what is left is told, the next n bytes move from it to the front of the buffer, and n is 0 at its end alone
 abbrev pub TakesNext : Option (List ℕ) → Option (List ℕ) → ℕ → List ℕ → Type 0
 TakesNext None new n buffer = new ≡ None
-TakesNext (Some left) new n buffer = (new ≡ Some (drop n left)) × (take n buffer ≡ take n left) × (n ≤ length left) × (n ≡ 0 → left ≡ [])
+TakesNext (Some left) new n buffer =
+    (new ≡ Some (drop n left)) × (take n buffer ≡ take n left) × (n ≤ length left) × (n ≡ 0 → left ≡ [])
 
 -- what was left with these bytes before what is left now, where it is told
 abbrev pub preceded : List ℕ → Option (List ℕ) → Option (List ℕ)

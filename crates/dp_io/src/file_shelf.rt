@@ -88,7 +88,11 @@ impl<R: Files + Input> Model for FileShelf<R> {
 
     ghost Value = { ShelfState };
 
-    ghost view = { λ shelf. record { has_input = shelf.has_input; sources = shelf.slots.items; failed = shelf.failed } };
+    ghost view = { λ shelf. record {
+      has_input = shelf.has_input;
+      sources = shelf.slots.items;
+      failed = shelf.failed;
+    } };
 }
 
 impl<R: Files + Input> FileShelf<R> {

@@ -81,7 +81,12 @@ impl Model for MemShelf {
 
     ghost Value = { ShelfValue };
 
-    ghost view = { λ shelf. record { piece = shelf.piece; stored = shelf.stored.items; rests = shelf.opened.items; calls = shelf.calls } };
+    ghost view = { λ shelf. record {
+      piece = shelf.piece;
+      stored = shelf.stored.items;
+      rests = shelf.opened.items;
+      calls = shelf.calls;
+    } };
 
     ghost invariant = { λ shelf. 1 ≤ shelf.piece };
 }
@@ -154,16 +159,20 @@ impl Shelf for MemShelf {
     fn open(&mut self, alloc: Global, name: &str) -> Result<Slot, OpenFault>
         ensures slot { IfOk result (λ slot. slot ≡ length self.old.rests) }
         ensures opened { OnOk result (length self.new.rests ≡ length self.old.rests + 1) }
-        ensures starts { IfOk result (λ slot. StartsFile (Some (bytes_of self.old.stored)) name.now (slice_get self.new.rests slot)) }
+        ensures starts { IfOk result (λ slot.
+            StartsFile (Some (bytes_of self.old.stored)) name.now (slice_get self.new.rests slot)) }
         ensures refused { OnErr result (length self.new.rests ≡ length self.old.rests) }
         ensures same_files { Some (bytes_of self.new.stored) ≡ Some (bytes_of self.old.stored) }
         ensures others { (n : ℕ) → n < length self.old.rests → slice_get self.new.rests n ≡ slice_get self.old.rests n }
         ensures kept { OnErr result ((n : ℕ) → slice_get self.new.rests n ≡ slice_get self.old.rests n) }
         ensures later { counted self.old.calls.failed ≤ counted self.new.calls.failed }
         ensures no_fault { OnOk result (counted self.new.calls.failed ≡ counted self.old.calls.failed) }
-        ensures cause { result ≡ Err OpenFault.Failed → (Rose (counted self.old.calls.failed) (counted self.new.calls.failed) ⊎ LacksFile (Some (bytes_of self.old.stored)) name.now) }
+        ensures cause { result ≡ Err OpenFault.Failed
+            → (Rose (counted self.old.calls.failed) (counted self.new.calls.failed)
+            ⊎ LacksFile (Some (bytes_of self.old.stored)) name.now) }
         ensures failed { is_failed result ≡ (fails_next self.old.calls || is_none (bytes_of self.old.stored name.now)) }
-        ensures ok { OnOk result (ForSome (bytes_of self.old.stored name.now) (λ bytes. self.new ≡ after_open self.old bytes)) }
+        ensures ok { OnOk result
+            (ForSome (bytes_of self.old.stored name.now) (λ bytes. self.new ≡ after_open self.old bytes)) }
         ensures err { OnErr result (self.new ≡ after_call_with self.old self.old.rests) }
     {
         self.calls.count(false)?;
@@ -179,7 +188,8 @@ impl Shelf for MemShelf {
     fn read(&mut self, slot: Slot, buf: &mut [u8]) -> Result<usize, Failed>
         requires open { slot < length self.old.rests }
         requires room { 0 < length buf.old }
-        ensures takes { IfOk result (λ n. TakesNext (slice_get self.old.rests slot) (slice_get self.new.rests slot) n buf.new) }
+        ensures takes { IfOk result (λ n.
+            TakesNext (slice_get self.old.rests slot) (slice_get self.new.rests slot) n buf.new) }
         ensures fits { IfOk result (λ n. n ≤ length buf.old) }
         ensures kept { OnErr result (slice_get self.new.rests slot ≡ slice_get self.old.rests slot) }
         ensures others { (n : ℕ) → n ≢ slot → slice_get self.new.rests n ≡ slice_get self.old.rests n }
@@ -187,7 +197,8 @@ impl Shelf for MemShelf {
         ensures same_slots { length self.new.rests ≡ length self.old.rests }
         ensures cause { HasCause (counted self.old.calls.failed) (counted self.new.calls.failed) result }
         ensures failed { is_err result ≡ fails_next self.old.calls }
-        ensures count { IfOk result (λ n. n ≡ min (min (length (rest_of self.old slot)) (length buf.old)) self.old.piece) }
+        ensures count { IfOk result (λ n.
+            n ≡ min (min (length (rest_of self.old slot)) (length buf.old)) self.old.piece) }
         ensures ok { IfOk result (λ n. self.new ≡ after_read self.old slot n) }
         ensures err { OnErr result (self.new ≡ after_call_with self.old self.old.rests) }
     {

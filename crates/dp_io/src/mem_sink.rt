@@ -26,9 +26,15 @@ impl Model for MemSink {
 
     ghost Value = { SinkValue };
 
-    ghost view = { λ sink. record { piece = sink.piece; cap = sink.cap; bytes = sink.bytes.items; calls = sink.calls } };
+    ghost view = { λ sink. record {
+      piece = sink.piece;
+      cap = sink.cap;
+      bytes = sink.bytes.items;
+      calls = sink.calls;
+    } };
 
-    ghost invariant = { λ sink. (1 ≤ sink.piece) × (length sink.bytes.items ≤ sink.cap) × (sink.cap ≤ vec_capacity sink.bytes) };
+    ghost invariant = { λ sink.
+        (1 ≤ sink.piece) × (length sink.bytes.items ≤ sink.cap) × (sink.cap ≤ vec_capacity sink.bytes) };
 }
 
 impl MemSink {
@@ -80,7 +86,8 @@ impl Sink for MemSink {
         ensures kept { OnErr result (Some self.new.bytes ≡ Some self.old.bytes) }
         ensures cause { HasCause (counted self.old.calls.failed) (counted self.new.calls.failed) result }
         ensures failed { is_err result ≡ (nat_le self.old.cap (length self.old.bytes) || fails_next self.old.calls) }
-        ensures count { IfOk result (λ n. n ≡ min (min (length bytes.now) self.old.piece) (self.old.cap - length self.old.bytes)) }
+        ensures count { IfOk result (λ n.
+            n ≡ min (min (length bytes.now) self.old.piece) (self.old.cap - length self.old.bytes)) }
         ensures ok { IfOk result (λ n. self.new ≡ after_write self.old (take n bytes.now)) }
         ensures err { OnErr result (self.new ≡ after_write self.old []) }
         ensures within { length self.new.bytes ≤ self.new.cap }

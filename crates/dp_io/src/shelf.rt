@@ -22,7 +22,7 @@ pub trait Shelf {
 
     /// Opens the file of that name in a new slot, with the whole file left of it.
     ///
-    /// `Failed` comes only where the count of faults rose, or where the shelf tells its files and has none of that name.
+    /// `Failed` comes only where the count of faults rose, or where the shelf tells its files and lacks that name.
     fn open(&mut self, alloc: Global, name: &str) -> Result<Slot, OpenFault>
         ensures slot { IfOk result (λ slot. slot ≡ slots self.old) }
         ensures opened { OnOk result (slots self.new ≡ slots self.old + 1) }
@@ -33,7 +33,8 @@ pub trait Shelf {
         ensures kept { OnErr result ((n : ℕ) → left self.new n ≡ left self.old n) }
         ensures later { faults self.old ≤ faults self.new }
         ensures no_fault { OnOk result (faults self.new ≡ faults self.old) }
-        ensures cause { result ≡ Err OpenFault.Failed → (Rose (faults self.old) (faults self.new) ⊎ LacksFile (files self.old) name.now) };
+        ensures cause { result ≡ Err OpenFault.Failed
+            → (Rose (faults self.old) (faults self.new) ⊎ LacksFile (files self.old) name.now) };
 
     /// Moves the next bytes of what is left of an open slot into a buffer that is not empty, and gives their number,
     /// at most the buffer's length. 0 means the end.

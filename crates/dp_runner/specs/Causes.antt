@@ -23,13 +23,15 @@ Kept result before now = now ≡ before
 -- are told, or a read fault where the shelf's count of faults rose, or want of memory
 abbrev pub HasReason : {A : Type 0} → Stop → Option Files → (Files → Result A Stop) → ℕ → ℕ → Type 0
 HasReason stop.Usage told right before now = ⊥
-HasReason stop.ReadFault told right before now = Rose before now ⊎ IsTold told (λ files. right files ≡ Err stop.ReadFault)
+HasReason stop.ReadFault told right before now =
+    Rose before now ⊎ IsTold told (λ files. right files ≡ Err stop.ReadFault)
 HasReason stop.WriteFault told right before now = ⊥
 HasReason stop.NoMemory told right before now = Unit {0}
 HasReason reason told right before now = ForSome told (λ files. right files ≡ Err reason)
 
 -- such a step answers what the definition says of the files that are told, or has a reason
-abbrev pub Answers : {A B : Type 0} → Result A Stop → (A → B) → Option Files → (Files → Result B Stop) → ℕ → ℕ → Type 0
+abbrev pub Answers : {A B : Type 0} → Result A Stop → (A → B) → Option Files → (Files → Result B Stop) → ℕ → ℕ
+    → Type 0
 Answers (Ok x) view told right before now = ForSome told (λ files. right files ≡ Ok (view x))
 Answers (Err reason) view told right before now = HasReason reason told right before now
 
@@ -42,11 +44,15 @@ pub record HasDone (outcome : Outcome) (ending : Option Stop) (old new : Option 
 
 -- a run does what its outcome says; or it ends with a read fault where the shelf's count of faults rose, or with want
 -- of memory, both after some of the lines, or with a write fault after a front of the bytes
-abbrev pub Runs : Result (Unit {0}) Stop → Option Files → (Files → Outcome) → ℕ → ℕ → Option (List ℕ) → Option (List ℕ) → List ℕ → Type 0
+abbrev pub Runs : Result (Unit {0}) Stop → Option Files → (Files → Outcome) → ℕ → ℕ
+    → Option (List ℕ) → Option (List ℕ) → List ℕ → Type 0
 Runs (Ok done) told right before now old new last = ForSome told (λ files. HasDone (right files) None old new last)
 Runs (Err stop.ReadFault) told right before now old new last =
     (Rose before now × ForSome told (λ files. AddsLines old new (right files).bytes))
     ⊎ IsTold told (λ files. HasDone (right files) (Some stop.ReadFault) old new last)
-Runs (Err stop.WriteFault) told right before now old new last = ForSome told (λ files. AddsFront old new (right files).bytes)
-Runs (Err stop.NoMemory) told right before now old new last = ForSome told (λ files. AddsLines old new (right files).bytes)
-Runs (Err reason) told right before now old new last = ForSome told (λ files. HasDone (right files) (Some reason) old new last)
+Runs (Err stop.WriteFault) told right before now old new last =
+    ForSome told (λ files. AddsFront old new (right files).bytes)
+Runs (Err stop.NoMemory) told right before now old new last =
+    ForSome told (λ files. AddsLines old new (right files).bytes)
+Runs (Err reason) told right before now old new last =
+    ForSome told (λ files. HasDone (right files) (Some reason) old new last)

@@ -37,12 +37,15 @@ range_if lo hi = if is_range lo hi then Some (lo, hi) else None
 
 -- the range of two number words, each an optional `-` and 1 to 18 digits
 abbrev pub range_of : List ℕ → List ℕ → Option (ℤ × ℤ)
-range_of lo hi = option_and_then (λ l. option_and_then (λ h. range_if l h) (signed_decimal 18 hi)) (signed_decimal 18 lo)
+range_of lo hi =
+    option_and_then (λ l. option_and_then (λ h. range_if l h) (signed_decimal 18 hi)) (signed_decimal 18 lo)
 
 -- two files and a range, if four words name them
 abbrev pub count_form_of : List ℕ → List ℕ → List ℕ → List ℕ → Option CountForm
 count_form_of data_name draws_name lo hi = if is_file_name data_name && is_file_name draws_name
-    then option_map (λ range. record { data_name = data_name; draws_name = draws_name; lo = range.0; hi = range.1 }) (range_of lo hi)
+    then option_map
+    (λ range. record { data_name = data_name; draws_name = draws_name; lo = range.0; hi = range.1 })
+    (range_of lo hi)
     else None
 
 -- the same of the words after `count`

@@ -9,6 +9,10 @@ pub record Source : Type 0 where
   pub step : List ℕ → ℕ → Turn
   pub state : List ℕ
 
+-- the source of that step in that state
+abbrev pub source_at : (List ℕ → ℕ → Turn) → List ℕ → Source
+source_at step state = record { step = step; state = state }
+
 -- the bytes that a run writes, the stop that ends it, if one does, and the last state of the source that is handed in
 pub record Outcome : Type 0 where
   pub bytes : List ℕ

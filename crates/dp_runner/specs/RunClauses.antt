@@ -9,8 +9,10 @@ use Rattle.dp_runner.specs.Outcome.{Outcome}
 use Rattle.dp_runner.specs.Stops.{status_at, line_at}
 use Rattle.dp_runner.specs.WrittenLines.{are_lines}
 
--- the run wrote the outcome's bytes, ended with its status and left the draw source that was handed in in its last state
-pub record IsOutcome (outcome : Outcome) (old new : Option (List ℕ)) (status : ℕ) (last : List ℕ) : Type 0 where
+-- the run wrote the outcome's bytes, ended with its status and left the draw source that was handed in in its last
+-- state
+pub record IsOutcome (outcome : Outcome) (old new : Option (List ℕ)) (status : ℕ) (last : List ℕ)
+    : Type 0 where
   pub bytes : new ≡ appended old outcome.bytes
   pub status_is : status ≡ status_at outcome.stop
   pub last_is : last ≡ outcome.last
@@ -26,7 +28,8 @@ GainsMessage line old new before now = (new ≡ appended old line) ⊎ (Rose bef
 
 -- what ended a run: its status and the line on the error output are the stop's, and the stop is the outcome's, unless
 -- the status is that of a failure or of want of memory
-pub record Ending (told : Option Files) (right : Files → Outcome) (status : ℕ) (old new : Option (List ℕ)) (before now : ℕ) : Type 0 where
+pub record Ending (told : Option Files) (right : Files → Outcome) (status : ℕ) (old new : Option (List ℕ))
+    (before now : ℕ) : Type 0 where
   pub stop : Option Stop
   pub status_is : status ≡ status_at stop
   pub message : GainsMessage (line_at stop) old new before now

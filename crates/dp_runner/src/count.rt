@@ -35,7 +35,12 @@ impl<'a> Model for CountForm<'a> {
 
     ghost Value = { CountForm };
 
-    ghost view = { λ form. record { data_name = form.data_name.now; draws_name = form.draws_name.now; lo = form.lo; hi = form.hi } };
+    ghost view = { λ form. record {
+      data_name = form.data_name.now;
+      draws_name = form.draws_name.now;
+      lo = form.lo;
+      hi = form.hi;
+    } };
 
     ghost invariant = { λ form. IsCellRange form.lo form.hi };
 }
@@ -126,7 +131,9 @@ pub(crate) fn run_count<S: Shelf, K: Sink>(
     shelf: &mut S,
     out: &mut K,
 ) -> Result<(), Stop>
-    ensures runs { (source : Source) → Runs result (S.files shelf.old) (λ files. written_last source (count_written form.now files)) (S.faults shelf.old) (S.faults shelf.new) (K.held out.old) (K.held out.new) source.state }
+    ensures runs { (source : Source) → Runs result (S.files shelf.old)
+        (λ files. written_last source (count_written form.now files)) (S.faults shelf.old) (S.faults shelf.new)
+        (K.held out.old) (K.held out.new) source.state }
     ensures no_usage { result ≢ Err Stop.Usage }
     ensures nothing { result ≢ Ok tt → result ≢ Err Stop.WriteFault → K.held out.new ≡ K.held out.old }
     ensures later { S.faults shelf.old ≤ S.faults shelf.new }
@@ -146,7 +153,8 @@ pub(crate) fn run_count<S: Shelf, K: Sink>(
 
 /// The line of the answer, with its line feed.
 fn answer_line<S: Shelf>(alloc: Global, form: &CountForm<'_>, shelf: &mut S) -> Result<String, Stop>
-    ensures answers { Answers result string_bytes (S.files shelf.old) (count_written form.now) (S.faults shelf.old) (S.faults shelf.new) }
+    ensures answers { Answers result string_bytes (S.files shelf.old) (count_written form.now)
+        (S.faults shelf.old) (S.faults shelf.new) }
     ensures later { S.faults shelf.old ≤ S.faults shelf.new }
     ensures kept { Kept result (S.faults shelf.old) (S.faults shelf.new) }
     ensures opens { S.slots shelf.new ≤ S.slots shelf.old + 2 }
@@ -161,7 +169,8 @@ fn answer_line<S: Shelf>(alloc: Global, form: &CountForm<'_>, shelf: &mut S) -> 
 
 /// The geometric release of the number of records.
 fn count_answer<S: Shelf>(alloc: Global, form: &CountForm<'_>, shelf: &mut S) -> Result<i64, Stop>
-    ensures answers { Answers result (λ answer. answer) (S.files shelf.old) (count_answer form.now) (S.faults shelf.old) (S.faults shelf.new) }
+    ensures answers { Answers result (λ answer. answer) (S.files shelf.old) (count_answer form.now)
+        (S.faults shelf.old) (S.faults shelf.new) }
     ensures later { S.faults shelf.old ≤ S.faults shelf.new }
     ensures kept { Kept result (S.faults shelf.old) (S.faults shelf.new) }
     ensures opens { S.slots shelf.new ≤ S.slots shelf.old + 2 }
@@ -178,14 +187,16 @@ fn count_answer<S: Shelf>(alloc: Global, form: &CountForm<'_>, shelf: &mut S) ->
 /// The geometric release of a number of records.
 fn release(form: &CountForm<'_>, records: u64, replay: &mut Replay) -> Result<i64, Failed>
     requires { records ≤ 2 ^ 30 }
-    ensures { result_ok result ≡ option_map (cell_answer form.now records) (cell_draws form.now (⟦<Replay as Draws>⟧.state replay.old)) }
+    ensures { result_ok result
+        ≡ option_map (cell_answer form.now records) (cell_draws form.now (⟦<Replay as Draws>⟧.state replay.old)) }
 {
     form.cell().step(records as i64, replay)
 }
 
 /// How many records a data file has.
 fn count_file<S: Shelf>(alloc: Global, shelf: &mut S, name: &str) -> Result<u64, Stop>
-    ensures answers { Answers result (λ n. n) (S.files shelf.old) (λ files. counted files name.now) (S.faults shelf.old) (S.faults shelf.new) }
+    ensures answers { Answers result (λ n. n) (S.files shelf.old) (λ files. counted files name.now)
+        (S.faults shelf.old) (S.faults shelf.new) }
     ensures later { S.faults shelf.old ≤ S.faults shelf.new }
     ensures kept { Kept result (S.faults shelf.old) (S.faults shelf.new) }
     ensures opens { S.slots shelf.new ≤ S.slots shelf.old + 1 }

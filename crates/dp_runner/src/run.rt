@@ -2,7 +2,7 @@ ghost use Rattle.std.specs.Prelude.{◌≡◌, ◌≢◌, ◌+◌, ◌≤◌, �
 ghost use Rattle.std.specs.Option.{ForSome};
 ghost use Rattle.dp_count.specs.Faults.{Rose, Still};
 ghost use Rattle.dp_runner.specs.Causes.{Runs, Kept, IsTold};
-ghost use Rattle.dp_runner.specs.Outcome.{Source};
+ghost use Rattle.dp_runner.specs.Outcome.{source_at};
 ghost use Rattle.dp_runner.specs.Forms.{form_of, command, outcome};
 ghost use Rattle.dp_runner.specs.RunClauses.{IsOutcome, Ending, GainsLines, GainsMessage};
 ghost use Rattle.dp_runner.specs.Stops.{row_of, is_silent};
@@ -25,10 +25,10 @@ use std::alloc::Global;
 /// |---|---|---|
 /// | 0 | none | the answer was written |
 /// | 2 | `dp: usage` | exactly where the words are of no form |
-/// | 4 | `dp: read fault` | only where the shelf's count of faults rose, or where it tells its files and lacks one of these two |
+/// | 4 | `dp: read fault` | only where the shelf's count of faults rose, or where it tells its files and lacks one |
 /// | 5 | `dp: write fault` | only where the count of faults of `out` rose |
-/// | 6 | `dp: draw fault` | exactly where DRAWS has too few numbers or one that is out of range, and no other fault came |
-/// | 7 | `dp: too long` | exactly where DATA has more than 2^30 bytes or DRAWS more than 2^26, and no earlier fault came |
+/// | 6 | `dp: draw fault` | exactly where DRAWS has too few numbers or one out of range, and no other fault came |
+/// | 7 | `dp: too long` | exactly where DATA passes 2^30 bytes or DRAWS 2^26, and no earlier fault came |
 /// | 9 | `dp: no memory` | memory ran out |
 ///
 /// The first fault ends the run. A failure of `err` does not change the status. A run that ends with 0 opened each file
@@ -42,35 +42,52 @@ pub fn run_words<S: Shelf, D: Draws, K: Sink, E: Sink>(
     err: &mut E,
 ) -> u8
     // What ended the run, if anything did, gives the status and the line on the error output.
-    ensures ending { Ending (S.files shelf.old) (λ files. outcome (map string_bytes words.now) files (record { step = D.step; state = D.state draws.old })) result (E.held err.old) (E.held err.new) (E.faults err.old) (E.faults err.new) }
+    ensures ending { Ending (S.files shelf.old)
+        (λ files. outcome (map string_bytes words.now) files (source_at D.step (D.state draws.old)))
+        result (E.held err.old) (E.held err.new) (E.faults err.old) (E.faults err.new) }
 
     // Where nothing fails, the run is its definition over whole texts.
-    ensures outcome { ForSome (S.files shelf.old) (λ files. Still (S.faults shelf.old) (S.faults shelf.new) → Still (K.faults out.old) (K.faults out.new) → result ≢ 9
-        → IsOutcome (outcome (map string_bytes words.now) files (record { step = D.step; state = D.state draws.old })) (K.held out.old) (K.held out.new) result (D.state draws.new)) }
+    ensures outcome { ForSome (S.files shelf.old) (λ files. Still (S.faults shelf.old) (S.faults shelf.new)
+        → Still (K.faults out.old) (K.faults out.new) → result ≢ 9
+        → IsOutcome (outcome (map string_bytes words.now) files (source_at D.step (D.state draws.old)))
+        (K.held out.old) (K.held out.new) result (D.state draws.new)) }
 
     // The statuses that need no failure are the definition's, whatever the counts do.
     ensures settled { result ≢ 4 → result ≢ 5 → result ≢ 9 → ForSome (S.files shelf.old) (λ files.
-        IsOutcome (outcome (map string_bytes words.now) files (record { step = D.step; state = D.state draws.old })) (K.held out.old) (K.held out.new) result (D.state draws.new)) }
+        IsOutcome (outcome (map string_bytes words.now) files (source_at D.step (D.state draws.old)))
+        (K.held out.old) (K.held out.new) result (D.state draws.new)) }
 
     // In every run the output gains a front of what the definition says, whole lines unless the output failed.
-    ensures front { ForSome (S.files shelf.old) (λ files. GainsLines (outcome (map string_bytes words.now) files (record { step = D.step; state = D.state draws.old })).bytes (K.held out.old) (K.held out.new) result) }
+    ensures front { ForSome (S.files shelf.old) (λ files.
+        GainsLines (outcome (map string_bytes words.now) files (source_at D.step (D.state draws.old))).bytes
+        (K.held out.old) (K.held out.new) result) }
     ensures silent { IsTrue (is_silent result) → K.held out.new ≡ K.held out.old }
-    ensures nothing { IsTrue (command (map string_bytes words.now)).writes_last → result ≢ 0 → result ≢ 5 → K.held out.new ≡ K.held out.old }
+    ensures nothing { IsTrue (command (map string_bytes words.now)).writes_last → result ≢ 0 → result ≢ 5
+        → K.held out.new ≡ K.held out.old }
 
     ensures usage { (result ≡ 2) ↔ (form_of (map string_bytes words.now) ≡ None) }
-    ensures read_fault { result ≡ 4 → (Rose (S.faults shelf.old) (S.faults shelf.new) ⊎ IsTold (S.files shelf.old) (λ files. (outcome (map string_bytes words.now) files (record { step = D.step; state = D.state draws.old })).stop ≡ Some Stop.ReadFault)) }
+    ensures read_fault { result ≡ 4 → (Rose (S.faults shelf.old) (S.faults shelf.new) ⊎ IsTold (S.files shelf.old)
+        (λ files. (outcome (map string_bytes words.now) files (source_at D.step (D.state draws.old))).stop
+        ≡ Some Stop.ReadFault)) }
     ensures write_fault { result ≡ 5 → Rose (K.faults out.old) (K.faults out.new) }
-    ensures draw_fault { result ≡ 6 → ForSome (S.files shelf.old) (λ files. (outcome (map string_bytes words.now) files (record { step = D.step; state = D.state draws.old })).stop ≡ Some Stop.DrawFault) }
-    ensures too_long { result ≡ 7 → ForSome (S.files shelf.old) (λ files. (outcome (map string_bytes words.now) files (record { step = D.step; state = D.state draws.old })).stop ≡ Some Stop.TooLong) }
+    ensures draw_fault { result ≡ 6 → ForSome (S.files shelf.old)
+        (λ files. (outcome (map string_bytes words.now) files (source_at D.step (D.state draws.old))).stop
+        ≡ Some Stop.DrawFault) }
+    ensures too_long { result ≡ 7 → ForSome (S.files shelf.old)
+        (λ files. (outcome (map string_bytes words.now) files (source_at D.step (D.state draws.old))).stop
+        ≡ Some Stop.TooLong) }
 
     // No run opens more files than its words name, and one that ends with 0 opens so many.
     ensures opens { S.slots shelf.new ≤ S.slots shelf.old + (command (map string_bytes words.now)).files }
-    ensures opened { result ≡ 0 → S.slots shelf.new ≡ S.slots shelf.old + (command (map string_bytes words.now)).files }
+    ensures opened { result ≡ 0
+        → S.slots shelf.new ≡ S.slots shelf.old + (command (map string_bytes words.now)).files }
 
     // A run that met neither a failure nor want of memory raised no count.
-    ensures kept { result ≢ 4 → result ≢ 5 → result ≢ 9 → (S.faults shelf.new ≡ S.faults shelf.old) × (K.faults out.new ≡ K.faults out.old) }
+    ensures kept { result ≢ 4 → result ≢ 5 → result ≢ 9
+        → (S.faults shelf.new ≡ S.faults shelf.old) × (K.faults out.new ≡ K.faults out.old) }
     ensures source { IsTrue (command (map string_bytes words.now)).keeps_source → draws.new ≡ draws.old }
-    ensures later { (S.faults shelf.old ≤ S.faults shelf.new) × (K.faults out.old ≤ K.faults out.new) × (E.faults err.old ≤ E.faults err.new) }
+    ensures later { (S.faults shelf.old ≤ S.faults shelf.new) × (K.faults out.old ≤ K.faults out.new)
+        × (E.faults err.old ≤ E.faults err.new) }
 {
     match run(alloc, words, shelf, draws, out) {
         Ok(()) => 0,
@@ -81,7 +98,8 @@ pub fn run_words<S: Shelf, D: Draws, K: Sink, E: Sink>(
 /// Ends a run for which no memory was left before it began: writes the line of that and gives its status.
 pub fn end_without_memory<E: Sink>(err: &mut E) -> u8
     ensures status { result ≡ (row_of Stop.NoMemory).status }
-    ensures message { GainsMessage (row_of Stop.NoMemory).line (E.held err.old) (E.held err.new) (E.faults err.old) (E.faults err.new) }
+    ensures message { GainsMessage (row_of Stop.NoMemory).line (E.held err.old) (E.held err.new)
+        (E.faults err.old) (E.faults err.new) }
 {
     report(Stop::NoMemory, err)
 }
@@ -89,7 +107,8 @@ pub fn end_without_memory<E: Sink>(err: &mut E) -> u8
 /// Writes the line of a stop, and gives its status.
 fn report<E: Sink>(stop: Stop, err: &mut E) -> u8
     ensures status { result ≡ (row_of stop).status }
-    ensures message { GainsMessage (row_of stop).line (E.held err.old) (E.held err.new) (E.faults err.old) (E.faults err.new) }
+    ensures message { GainsMessage (row_of stop).line (E.held err.old) (E.held err.new)
+        (E.faults err.old) (E.faults err.new) }
     ensures later { E.faults err.old ≤ E.faults err.new }
 {
     let row = stop.row();
@@ -105,12 +124,17 @@ fn run<S: Shelf, D: Draws, K: Sink>(
     draws: &mut D,
     out: &mut K,
 ) -> Result<(), Stop>
-    ensures runs { Runs result (S.files shelf.old) (λ files. outcome (map string_bytes words.now) files (record { step = D.step; state = D.state draws.old })) (S.faults shelf.old) (S.faults shelf.new) (K.held out.old) (K.held out.new) (D.state draws.new) }
+    ensures runs { Runs result (S.files shelf.old)
+        (λ files. outcome (map string_bytes words.now) files (source_at D.step (D.state draws.old)))
+        (S.faults shelf.old) (S.faults shelf.new) (K.held out.old) (K.held out.new) (D.state draws.new) }
     ensures usage { (result ≡ Err Stop.Usage) ↔ (form_of (map string_bytes words.now) ≡ None) }
-    ensures silent { IfErr result (λ reason. IsTrue (is_silent (row_of reason).status) → K.held out.new ≡ K.held out.old) }
-    ensures nothing { IsTrue (command (map string_bytes words.now)).writes_last → result ≢ Ok tt → result ≢ Err Stop.WriteFault → K.held out.new ≡ K.held out.old }
+    ensures silent { IfErr result (λ reason.
+        IsTrue (is_silent (row_of reason).status) → K.held out.new ≡ K.held out.old) }
+    ensures nothing { IsTrue (command (map string_bytes words.now)).writes_last → result ≢ Ok tt
+        → result ≢ Err Stop.WriteFault → K.held out.new ≡ K.held out.old }
     ensures opens { S.slots shelf.new ≤ S.slots shelf.old + (command (map string_bytes words.now)).files }
-    ensures opened { OnOk result (S.slots shelf.new ≡ S.slots shelf.old + (command (map string_bytes words.now)).files) }
+    ensures opened { OnOk result
+        (S.slots shelf.new ≡ S.slots shelf.old + (command (map string_bytes words.now)).files) }
     ensures source { IsTrue (command (map string_bytes words.now)).keeps_source → draws.new ≡ draws.old }
     ensures later { S.faults shelf.old ≤ S.faults shelf.new }
     ensures kept { Kept result (S.faults shelf.old) (S.faults shelf.new) }

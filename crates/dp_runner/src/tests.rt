@@ -14,8 +14,8 @@ struct Shown {
     err: Vec<u8>,
 }
 
-/// Which calls of a run's objects fail, by their number from 1, and none where it is 0; and whether the objects read and
-/// write all at once, or a few bytes at a time.
+/// Which calls of a run's objects fail, by their number from 1, and none where it is 0; and whether the objects read
+/// and write all at once, or a few bytes at a time.
 #[derive(Clone, Copy, Drop)]
 struct Calls {
     shelf: u64,

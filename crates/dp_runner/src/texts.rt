@@ -19,7 +19,8 @@ pub(crate) fn read_replay<S: Shelf>(
     shelf: &mut S,
     name: &str,
 ) -> Result<Replay, Stop>
-    ensures answers { Answers result ⟦<Replay as Draws>⟧.state (S.files shelf.old) (λ files. drawn files name.now) (S.faults shelf.old) (S.faults shelf.new) }
+    ensures answers { Answers result ⟦<Replay as Draws>⟧.state (S.files shelf.old) (λ files. drawn files name.now)
+        (S.faults shelf.old) (S.faults shelf.new) }
     ensures later { S.faults shelf.old ≤ S.faults shelf.new }
     ensures kept { Kept result (S.faults shelf.old) (S.faults shelf.new) }
     ensures opens { S.slots shelf.new ≤ S.slots shelf.old + 1 }
@@ -36,7 +37,8 @@ pub(crate) fn read_file<S: Shelf>(
     name: &str,
     most: u64,
 ) -> Result<Vec<u8>, Stop>
-    ensures answers { Answers result (λ text. text.items) (S.files shelf.old) (λ files. file_text files name.now most) (S.faults shelf.old) (S.faults shelf.new) }
+    ensures answers { Answers result (λ text. text.items) (S.files shelf.old) (λ files. file_text files name.now most)
+        (S.faults shelf.old) (S.faults shelf.new) }
     ensures later { S.faults shelf.old ≤ S.faults shelf.new }
     ensures kept { Kept result (S.faults shelf.old) (S.faults shelf.new) }
     ensures opens { S.slots shelf.new ≤ S.slots shelf.old + 1 }
