@@ -86,7 +86,7 @@ case_of 'a closed error output' 4 '' '' '"$dp" count missing draws 0 5 2>&-'
 case_of 'a closed error output that is not needed' 0 'answer 3' '' '"$dp" count data draws 0 5 2>&-'
 case_of 'an error output that is full' 2 '' '' '"$dp" 2>/dev/full'
 case_of 'all streams closed' 5 '' '' '"$dp" count data draws 0 5 <&- >&- 2>&-'
-case_of 'a pipe that its reader closed' 5 '' 'dp: write fault' '{ sleep 0.2; "$dp" count data draws 0 5; echo $? >status; } | true; exit $(cat status)'
+case_of 'a pipe that its reader closed' 5 '' 'dp: write fault' '{ sleep 0.5; "$dp" count data draws 0 5; echo $? >status; } | true; exit $(cat status)'
 case_of 'the files are as they were' 0 'a b c 0 0 0 0 0 0' '' 'echo $(cat data draws)'
 
 echo "$passed passed, $failed failed"
