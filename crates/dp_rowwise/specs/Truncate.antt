@@ -65,7 +65,7 @@ truncate_value column most v = v
 abbrev pub is_most : ℕ → Bool
 is_most most = nat_le 1 most && nat_le most (2 ^ 20)
 
--- from records of persons to records: those of one person are apart by at most twice the records that stay
+-- from records by persons to records: a person that differs changes at most 2 * most of the records that stay
 abbrev pub truncate_mapping : ℕ → ℕ → ℕ → Mapping
 truncate_mapping column most columns = record {
   input_domain = domain.Rows columns;
