@@ -1,4 +1,5 @@
 pub mod Caps
+pub mod ChainingLaw
 pub mod Equality
 pub mod JoinedReleases
 pub mod JoiningLaw

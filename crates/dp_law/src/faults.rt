@@ -1,6 +1,6 @@
 ghost use Rattle.std.specs.Prelude.{◌≡◌};
 
-use dp_count::NoMemory;
+use dp_count::{Failed, NoMemory};
 use std::alloc::AllocError;
 
 /// Why nothing is released.
@@ -10,6 +10,17 @@ pub enum ReleaseFault {
     DrawFault,
     /// Memory ran out.
     NoMemory,
+}
+
+impl From<Failed> for ReleaseFault {
+    ghost use Rattle.std.specs.Prelude.{◌≡◌};
+    ghost use Rattle.dp_law.specs.declared.faults.ReleaseFault.TheVariants as fault;
+
+    ghost from_gives = { λ _ made. made ≡ fault.DrawFault };
+
+    fn from(_: Failed) -> Self {
+        ReleaseFault::DrawFault
+    }
 }
 
 impl From<NoMemory> for ReleaseFault {
