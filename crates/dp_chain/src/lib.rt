@@ -2,12 +2,18 @@
 //! input are parts again, for any parts, by their laws alone.
 #![tactic(auto)]
 
+mod any_transformation;
 mod both;
 mod chain;
 mod faults;
 mod measured;
+mod noise;
+mod stage;
 
+pub use any_transformation::AnyTransformation;
 pub use both::Both;
 pub use chain::Chain;
 pub use faults::JoinFault;
 pub use measured::Measured;
+pub use noise::{Noise, Part, ReleaseSpec};
+pub use stage::{Stage, Stages};
