@@ -1,2 +1,4 @@
 pub mod Joins
+pub mod Lines
+pub mod LinesProof
 pub mod Stages

@@ -4,4 +4,5 @@ pub mod Digits
 pub mod DrawLists
 pub mod Faults
 pub mod Ratios
+pub mod Results
 pub mod Slots
