@@ -2,6 +2,7 @@
 //! input are parts again, for any parts, by their laws alone.
 #![tactic(auto)]
 
+mod any_measurement;
 mod any_transformation;
 mod both;
 mod chain;
@@ -11,6 +12,7 @@ mod measured;
 mod noise;
 mod stage;
 
+pub use any_measurement::AnyMeasurement;
 pub use any_transformation::AnyTransformation;
 pub use both::Both;
 pub use chain::Chain;
