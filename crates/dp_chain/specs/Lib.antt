@@ -1,4 +1,6 @@
 pub mod Joins
 pub mod Lines
 pub mod LinesProof
+pub mod Releases
+pub mod ReleasesProof
 pub mod Stages

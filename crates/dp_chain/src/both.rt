@@ -87,7 +87,7 @@ impl<M1: Measurement, M2: Measurement> Measurement for Both<M1, M2> {
             Err(fault) => Err(fault),
             Ok(front) => match self.second.release(alloc, v, draws) {
                 Err(fault) => Err(fault),
-                Ok(back) => match joined(front, back) {
+                Ok(back) => match joined_answers(front, back) {
                     Err(NoMemory) => Err(ReleaseFault::NoMemory),
                     Ok(answer) => Ok(answer),
                 },
@@ -99,7 +99,7 @@ impl<M1: Measurement, M2: Measurement> Measurement for Both<M1, M2> {
 }
 
 /// The pieces of two answers in order.
-fn joined(front: Answer, back: Answer) -> Result<Answer, NoMemory>
+pub(crate) fn joined_answers(front: Answer, back: Answer) -> Result<Answer, NoMemory>
     ensures { IfOk result (λ answer. answer ≡ front ++ back) }
 {
     let mut pieces = front.into_vec();

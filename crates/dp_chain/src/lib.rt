@@ -10,14 +10,16 @@ mod faults;
 mod line;
 mod measured;
 mod noise;
+mod release;
 mod stage;
 
 pub use any_measurement::AnyMeasurement;
 pub use any_transformation::AnyTransformation;
 pub use both::Both;
 pub use chain::Chain;
-pub use faults::JoinFault;
+pub use faults::{CostFault, JoinFault};
 pub use line::Line;
 pub use measured::Measured;
 pub use noise::{Noise, Part, ReleaseSpec};
+pub use release::{MeasuredLine, Release};
 pub use stage::{Stage, Stages};

@@ -37,7 +37,7 @@ added-parts (Some x) (Some y) sum h = (x, y, refl, refl, capped-same (x + y) sum
 added-parts (Some x) None sum h = absurd (cc)
 added-parts None k sum h = absurd (cc)
 
-added-le : (j k : Option ℕ) (sum : ℕ) → added j k ≡ Some sum → sum ≤ 2 ^ 32
+pub added-le : (j k : Option ℕ) (sum : ℕ) → added j k ≡ Some sum → sum ≤ 2 ^ 32
 added-le (Some x) (Some y) sum h = capped-le (x + y) sum h
 added-le (Some x) None sum h = absurd (cc)
 added-le None k sum h = absurd (cc)

@@ -16,10 +16,10 @@ returns-in-Err-release-clause-released g c =
     back-stops _ one.shape other.shape (one.function c.args.v.now) (other.function c.args.v.now) ((both one other).function c.args.v.now)
     _ _ _ _ c.in-Err-release.fault c.in-Ok.ensures.released c.in-Err-release.ensures.released
 
-pub returns-in-Err-joined-clause-released : goal.returns-in-Err-joined-clause-released
-returns-in-Err-joined-clause-released g c =
+pub returns-in-Err-joined_answers-clause-released : goal.returns-in-Err-joined_answers-clause-released
+returns-in-Err-joined_answers-clause-released g c =
     join-memory _ _ _ _ _ _ _ _ _ _ c.in-Ok.ensures.released c.in-Ok-release.ensures.released
 
-pub returns-in-Ok-joined-clause-released : goal.returns-in-Ok-joined-clause-released
-returns-in-Ok-joined-clause-released g c =
-    rw c.in-Ok-joined.ensures (both-answers _ _ _ _ _ _ _ _ _ _ c.in-Ok.ensures.released c.in-Ok-release.ensures.released)
+pub returns-in-Ok-joined_answers-clause-released : goal.returns-in-Ok-joined_answers-clause-released
+returns-in-Ok-joined_answers-clause-released g c =
+    rw c.in-Ok-joined_answers.ensures (both-answers _ _ _ _ _ _ _ _ _ _ c.in-Ok.ensures.released c.in-Ok-release.ensures.released)

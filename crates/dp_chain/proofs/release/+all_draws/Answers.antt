@@ -1,0 +1,28 @@
+use Rattle.std.proofs.Common.{◌≡◌, length, sym, ap, arith}
+use Rattle.dp_chain.proofs.MeasuredLines.{part_mechanism}
+use Rattle.dp_chain.proofs.ReleaseSteps.{draws-none, draws-first}
+use Rattle.dp_chain.proofs.release.+all_draws.Goals as goal
+
+pub returns-in_default : goal.returns-in_default
+returns-in_default t c = sym (draws-none part_mechanism c.args.parts.now c.in_default.ensures.cases)
+
+pub all_draws-requires : goal.all_draws-requires
+all_draws-requires t c =
+    let whole = draws-first part_mechanism c.args.parts.now c.in-Some.first.now c.in-Some.rest.now c.in-Some.ensures.cases.0 in
+    let shorter = c.in-Some.ensures.cases.1 in
+    (omega arith, omega arith)
+
+pub overflow_add-result : goal.overflow_add-result
+overflow_add-result t c =
+    let whole = draws-first part_mechanism c.args.parts.now c.in-Some.first.now c.in-Some.rest.now c.in-Some.ensures.cases.0 in
+    let one = c.draws.ensures in
+    let others = c.all_draws.ensures in
+    let few = c.requires in
+    omega arith
+
+pub returns : goal.returns
+returns t c =
+    let whole = draws-first part_mechanism c.args.parts.now c.in-Some.first.now c.in-Some.rest.now c.in-Some.ensures.cases.0 in
+    let one = c.draws.ensures in
+    let others = c.all_draws.ensures in
+    omega arith

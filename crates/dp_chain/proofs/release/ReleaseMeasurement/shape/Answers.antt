@@ -1,0 +1,9 @@
+use Rattle.std.proofs.Common.{List, map, length, ◌≤◌, ◌^◌, sym, subst}
+use Rattle.dp_chain.specs.Releases.{joined_shape}
+use Rattle.dp_chain.specs.contracts.release.ReleaseMeasurement.TheImpl.Laws.{law-law}
+use Rattle.dp_chain.proofs.MeasuredLines.{MeasuredLine, part_mechanism}
+use Rattle.dp_chain.proofs.release.ReleaseMeasurement.shape.Goals as goal
+
+pub joined_shape-requires : goal.joined_shape-requires
+joined_shape-requires c =
+    subst (λ (parts : List MeasuredLine). length (joined_shape (map part_mechanism parts)) ≤ 2 ^ 40) (sym c.as_slice.ensures.value) (law-law c.args.self.now).few_draws

@@ -1,0 +1,170 @@
+ghost use Rattle.std.specs.Prelude.{◌≡◌, ◌≤◌, ◌^◌, ◌++◌, ◌∷◌, [], map, length, IfOk, OnOk, OnErr};
+ghost use Rattle.std.specs.Result.{result_ok};
+ghost use Rattle.dp_domain.specs.Domains.{Fits};
+ghost use Rattle.dp_domain.specs.Metrics.{SuitsMetric};
+ghost use Rattle.dp_domain.proofs.Limits.{Fits-prop};
+ghost use Rattle.dp_law.specs.Making.{MakesOr};
+ghost use Rattle.dp_chain.specs.Releases.{release_on, part_on, joined_shape, joined_answer, all_pieces, total_loss, cost_of, AreAlike, HaveInput};
+ghost use Rattle.dp_chain.specs.ReleasesProof.{AreAlike-prop};
+ghost use Rattle.dp_domain.proofs.Limits.{SuitsMetric-prop};
+ghost use Rattle.dp_law.specs.Releasing.{Released, ReleaseCause};
+
+use crate::any_measurement::AnyMeasurement;
+use crate::both::joined_answers;
+use crate::faults::CostFault;
+use crate::line::Line;
+use crate::measured::Measured;
+use crate::noise::{Part, ReleaseSpec};
+use dp_count::{NoMemory, Shape};
+use dp_domain::{Domain, Metric, Value};
+use dp_draws::Draws;
+use dp_law::{Answer, MakeFault, Measurement, ReleaseFault, Transformation};
+use dp_num::{Past, Ratio, add_units};
+use std::alloc::Global;
+
+/// The greatest number of draws of one release.
+const MOST_DRAWS: u64 = 1_048_576;
+
+/// A part of a release: a line, and the measurement of what it gives.
+pub type MeasuredLine = Measured<Line, AnyMeasurement>;
+
+/// Parts on one input, as one measurement: their shapes and answers in order, and their losses added.
+#[derive(Drop)]
+pub struct Release {
+    domain: Domain,
+    metric: Metric,
+    ratio: Ratio,
+    parts: Vec<MeasuredLine>,
+    ghost fits: { Fits domain } by { Fits-prop domain },
+    ghost suits: { SuitsMetric domain metric } by { SuitsMetric-prop domain metric },
+    ghost few: { length parts.items ≤ 16 },
+    ghost alike: { AreAlike record { p = ratio.p; q = ratio.q } domain metric (map ⟦<Measured<Line, AnyMeasurement> as Measurement>⟧.mechanism parts.items) }
+        by { AreAlike-prop record { p = ratio.p; q = ratio.q } domain metric (map ⟦<Measured<Line, AnyMeasurement> as Measurement>⟧.mechanism parts.items) },
+}
+
+impl Measurement for Release {
+    ghost use Rattle.dp_chain.specs.Releases.{joined};
+    ghost use Rattle.dp_chain.specs.ReleasesProof.{release_law};
+    ghost use Rattle.dp_law.proofs.ChainingLaw.{measured_law};
+    ghost use Rattle.dp_chain.specs.contracts.line.LineTransformation.TheImpl.Laws.{law-law as line_law};
+    ghost use Rattle.dp_chain.specs.contracts.any_measurement.AnyMeasurementMeasurement.TheImpl.Laws.{law-law as noise_law};
+
+    ghost mechanism = { λ r. joined record { p = r.ratio.p; q = r.ratio.q } r.domain r.metric (map ⟦<Measured<Line, AnyMeasurement> as Measurement>⟧.mechanism r.parts.items) };
+
+    fn in_domain(&self) -> Domain {
+        self.domain
+    }
+
+    fn in_metric(&self) -> Metric {
+        self.metric
+    }
+
+    fn draws(&self) -> u64 {
+        all_draws(self.parts.as_slice())
+    }
+
+    fn pieces(&self) -> u64 {
+        all_pieces(self.parts.as_slice())
+    }
+
+    fn shape(&self, alloc: Global) -> Result<Shape, NoMemory> {
+        joined_shape(alloc, self.parts.as_slice())
+    }
+
+    fn loss(&self, d: u64) -> Result<u64, Past> {
+        total_loss(self.parts.as_slice(), d)
+    }
+
+    fn release<D: Draws>(
+        &self,
+        alloc: Global,
+        v: &Value,
+        draws: &mut D,
+    ) -> Result<Answer, ReleaseFault> {
+        release_each(alloc, self.parts.as_slice(), v, draws)
+    }
+
+    ghost law = { λ r. release_law ⟦<Measured<Line, AnyMeasurement> as Measurement>⟧.mechanism
+        (λ m. measured_law (⟦<Line as Transformation>⟧.mapping m.first) (⟦<AnyMeasurement as Measurement>⟧.mechanism m.second) (line_law m.first) (noise_law m.second) m.domains m.metrics)
+        record { p = r.ratio.p; q = r.ratio.q } r.domain r.metric r.parts.items r.fits r.suits (r.ratio.positive, r.ratio.below_one, r.ratio.small) r.few r.alike };
+}
+
+/// How many draws the parts take.
+fn all_draws(parts: &[MeasuredLine]) -> u64
+    requires { length (joined_shape (map ⟦<Measured<Line, AnyMeasurement> as Measurement>⟧.mechanism parts.now)) ≤ 2 ^ 40 }
+    ensures { result ≡ length (joined_shape (map ⟦<Measured<Line, AnyMeasurement> as Measurement>⟧.mechanism parts.now)) }
+{
+    let Some((first, rest)) = parts.split_first() else {
+        return 0;
+    };
+    first.draws() + all_draws(rest)
+}
+
+/// How many pieces the answers of the parts have.
+fn all_pieces(parts: &[MeasuredLine]) -> u64
+    requires { all_pieces (map ⟦<Measured<Line, AnyMeasurement> as Measurement>⟧.mechanism parts.now) ≤ 2 ^ 31 }
+    ensures { result ≡ all_pieces (map ⟦<Measured<Line, AnyMeasurement> as Measurement>⟧.mechanism parts.now) }
+{
+    let Some((first, rest)) = parts.split_first() else {
+        return 0;
+    };
+    first.pieces() + all_pieces(rest)
+}
+
+/// The shapes of the parts in order.
+fn joined_shape(alloc: Global, parts: &[MeasuredLine]) -> Result<Shape, NoMemory>
+    requires { length (joined_shape (map ⟦<Measured<Line, AnyMeasurement> as Measurement>⟧.mechanism parts.now)) ≤ 2 ^ 40 }
+    ensures { IfOk result (λ shape. shape ≡ joined_shape (map ⟦<Measured<Line, AnyMeasurement> as Measurement>⟧.mechanism parts.now)) }
+{
+    let Some((first, rest)) = parts.split_first() else {
+        return Ok(Shape::new(alloc));
+    };
+    let mut shape = first.shape(alloc)?;
+    shape.join(&joined_shape(alloc, rest)?)?;
+    Ok(shape)
+}
+
+/// The sum of the losses of the parts.
+fn total_loss(parts: &[MeasuredLine], d: u64) -> Result<u64, Past>
+    requires { d ≤ 2 ^ 32 }
+    ensures { result_ok result ≡ total_loss (map ⟦<Measured<Line, AnyMeasurement> as Measurement>⟧.mechanism parts.now) d }
+{
+    let Some((first, rest)) = parts.split_first() else {
+        return Ok(0);
+    };
+    let Ok(front) = first.loss(d) else {
+        return Err(Past);
+    };
+    let Ok(back) = total_loss(rest, d) else {
+        return Err(Past);
+    };
+    add_units(front, back)
+}
+
+/// The answers of the parts in order, each on draws of its own. A part takes the memory for its answer before its first
+/// draw.
+fn release_each<D: Draws>(
+    alloc: Global,
+    parts: &[MeasuredLine],
+    v: &Value,
+    draws: &mut D,
+) -> Result<Answer, ReleaseFault>
+    requires { HaveInput v.now (map ⟦<Measured<Line, AnyMeasurement> as Measurement>⟧.mechanism parts.now) }
+    ensures released { let parts = map ⟦<Measured<Line, AnyMeasurement> as Measurement>⟧.mechanism parts.now in
+        Released D.step (joined_shape parts) (joined_answer parts v.now) (D.state draws.old) result (D.state draws.new) }
+    ensures cause { ReleaseCause (D.faults draws.old) (D.faults draws.new) result }
+{
+    let Some((first, rest)) = parts.split_first() else {
+        return Ok(Answer::new(alloc));
+    };
+    match first.release(alloc, v, draws) {
+        Err(fault) => Err(fault),
+        Ok(front) => match release_each(alloc, rest, v, draws) {
+            Err(fault) => Err(fault),
+            Ok(back) => match joined_answers(front, back) {
+                Err(NoMemory) => Err(ReleaseFault::NoMemory),
+                Ok(answer) => Ok(answer),
+            },
+        },
+    }
+}
