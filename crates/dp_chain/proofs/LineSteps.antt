@@ -24,11 +24,11 @@ use Rattle.dp_chain.proofs.Making.{stages-made, stages-refused, stages-none, on_
 pub left-cons : {T : Type 0} (xs : List T) (i : ℕ) (x : T) → i < length xs → x ≡ slice_index_or xs i x → drop i xs ≡ x ∷ drop (i + 1) xs
 left-cons xs i x h is = rw add-one (drop-cons xs i x h ∙ ap (λ (y : _). y ∷ drop (suc i) xs) (sym is))
 
-line_map-cons : (first : Mapping) (rest : List Mapping) (d : ℕ) → line_map (first ∷ rest) d ≡ option_and_then (line_map rest) (first.stability_map d)
+pub line_map-cons : (first : Mapping) (rest : List Mapping) (d : ℕ) → line_map (first ∷ rest) d ≡ option_and_then (line_map rest) (first.stability_map d)
 unfolding line_map
 line_map-cons first rest d = refl
 
-line_map-nil : (d : ℕ) → d ≤ 2 ^ 32 → line_map [] d ≡ Some d
+pub line_map-nil : (d : ℕ) → d ≤ 2 ^ 32 → line_map [] d ≡ Some d
 unfolding line_map
 line_map-nil d few = grind (arith, nat_tests)
 

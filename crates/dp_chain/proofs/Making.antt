@@ -15,7 +15,7 @@ use Rattle.dp_chain.proofs.StageInputs.{Takes, stage-takes}
 abbrev pub first_and : Result Mapping Refused → List Stage → Result (List Mapping) Refused
 first_and made stages = made >>= (λ first. stages_on stages first.output_domain first.output_metric >>= (λ rest. Ok (first ∷ rest)))
 
-stages-more : (s : Stage) (ss : List Stage) (d : Domain) (m : Metric) → stages_on (s ∷ ss) d m ≡ first_and (stage_on s d m) ss
+pub stages-more : (s : Stage) (ss : List Stage) (d : Domain) (m : Metric) → stages_on (s ∷ ss) d m ≡ first_and (stage_on s d m) ss
 unfolding stages_on
 stages-more s ss d m = refl
 

@@ -38,11 +38,11 @@ pieces-nil : all_pieces [] ≡ 0
 unfolding all_pieces
 pieces-nil = refl
 
-loss-cons : (first : Mechanism) (rest : List Mechanism) (d : ℕ) → total_loss (first ∷ rest) d ≡ added (first.privacy_map d) (total_loss rest d)
+pub loss-cons : (first : Mechanism) (rest : List Mechanism) (d : ℕ) → total_loss (first ∷ rest) d ≡ added (first.privacy_map d) (total_loss rest d)
 unfolding total_loss
 loss-cons first rest d = refl
 
-loss-nil : (d : ℕ) → total_loss [] d ≡ Some 0
+pub loss-nil : (d : ℕ) → total_loss [] d ≡ Some 0
 unfolding total_loss
 loss-nil d = refl
 

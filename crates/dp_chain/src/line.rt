@@ -154,7 +154,7 @@ fn apply_all(alloc: Global, stages: &[AnyTransformation], v: Value) -> Result<Va
 }
 
 /// Puts an item at the end. After `NoMemory` the list is unchanged.
-fn append<T: Drop>(list: &mut Vec<T>, item: T) -> Result<(), NoMemory>
+pub(crate) fn append<T: Drop>(list: &mut Vec<T>, item: T) -> Result<(), NoMemory>
     ensures ok { OnOk result (list.new.items ≡ list.old.items ++ item ∷ []) }
     ensures err { OnErr result (list.new.items ≡ list.old.items) }
 {

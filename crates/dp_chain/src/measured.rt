@@ -38,6 +38,32 @@ impl<T: Transformation + Drop, M: Measurement + Drop> Measured<T, M> {
     }
 }
 
+impl<T: Transformation, M: Measurement> Measured<T, M> {
+    /// `first`, and then `second`, which takes what the first gives.
+    pub(crate) fn joined(first: T, second: M) -> Measured<T, M>
+        requires domains { let a = T.mapping first in let b = M.mechanism second in a.output_domain ≡ b.input_domain }
+        requires metrics { let a = T.mapping first in let b = M.mechanism second in a.output_metric ≡ b.input_metric }
+        ensures first { result.first ≡ first }
+        ensures second { result.second ≡ second }
+    {
+        Measured { first, second }
+    }
+
+    /// The transformation.
+    pub fn first(&self) -> &T
+        ensures { result.now ≡ self.now.first }
+    {
+        &self.first
+    }
+
+    /// The measurement of what the transformation gives.
+    pub fn second(&self) -> &M
+        ensures { result.now ≡ self.now.second }
+    {
+        &self.second
+    }
+}
+
 impl<T: Transformation, M: Measurement> Measurement for Measured<T, M> {
     ghost use Rattle.dp_law.specs.Joining.{measured};
     ghost use Rattle.dp_law.proofs.ChainingLaw.{measured_law};

@@ -1,10 +1,10 @@
-ghost use Rattle.std.specs.Prelude.{◌≡◌, ◌≤◌, ◌^◌, ◌++◌, ◌∷◌, [], map, length, IfOk, OnOk, OnErr};
+ghost use Rattle.std.specs.Prelude.{Some, ◌≡◌, ◌≤◌, ◌^◌, ◌++◌, ◌∷◌, [], map, length, IfOk, OnOk, OnErr};
 ghost use Rattle.std.specs.Result.{result_ok};
 ghost use Rattle.dp_domain.specs.Domains.{Fits};
 ghost use Rattle.dp_domain.specs.Metrics.{SuitsMetric};
 ghost use Rattle.dp_domain.proofs.Limits.{Fits-prop};
 ghost use Rattle.dp_law.specs.Making.{MakesOr};
-ghost use Rattle.dp_chain.specs.Releases.{release_on, part_on, joined_shape, joined_answer, all_pieces, total_loss, cost_of, AreAlike, HaveInput};
+ghost use Rattle.dp_chain.specs.Releases.{release_on, part_on, joined_shape, joined_answer, all_pieces, total_loss, cost_of, AreAlike, IsLike, HaveInput};
 ghost use Rattle.dp_chain.specs.ReleasesProof.{AreAlike-prop};
 ghost use Rattle.dp_domain.proofs.Limits.{SuitsMetric-prop};
 ghost use Rattle.dp_law.specs.Releasing.{Released, ReleaseCause};
@@ -12,7 +12,7 @@ ghost use Rattle.dp_law.specs.Releasing.{Released, ReleaseCause};
 use crate::any_measurement::AnyMeasurement;
 use crate::both::joined_answers;
 use crate::faults::CostFault;
-use crate::line::Line;
+use crate::line::{Line, append};
 use crate::measured::Measured;
 use crate::noise::{Part, ReleaseSpec};
 use dp_count::{NoMemory, Shape};
@@ -40,6 +40,51 @@ pub struct Release {
     ghost few: { length parts.items ≤ 16 },
     ghost alike: { AreAlike record { p = ratio.p; q = ratio.q } domain metric (map ⟦<Measured<Line, AnyMeasurement> as Measurement>⟧.mechanism parts.items) }
         by { AreAlike-prop record { p = ratio.p; q = ratio.q } domain metric (map ⟦<Measured<Line, AnyMeasurement> as Measurement>⟧.mechanism parts.items) },
+}
+
+impl Release {
+    ghost use Rattle.dp_chain.specs.Release.{release_parts};
+
+    /// The parts of the spec, 1 to 16, made from first to last on one domain and metric, with the ratio p/q. The first
+    /// part that is refused decides; within it the first stage that is refused, and then the noise.
+    pub fn make(
+        alloc: Global,
+        domain: Domain,
+        metric: Metric,
+        ratio: Ratio,
+        spec: &ReleaseSpec,
+    ) -> Result<Release, MakeFault>
+        requires fits { Fits domain }
+        requires some { 1 ≤ length spec.now }
+        requires few { length spec.now ≤ 16 }
+        ensures made { MakesOr ⟦<Release as Measurement>⟧.mechanism result (release_on record { p = ratio.p; q = ratio.q } spec.now domain metric) }
+        ensures nothing_at_0 { IfOk result (λ release. let m = ⟦<Release as Measurement>⟧.mechanism release in m.privacy_map 0 ≡ Some 0) }
+    {
+        make_release(alloc, domain, metric, ratio, spec.as_slice())
+    }
+
+    /// What one release costs on values within `d`, in units. `Distance` comes exactly where a part's stability map or
+    /// privacy map, or the sum of the losses, passes 2^32; `Draws` exactly where `Distance` does not and the release
+    /// takes more than 2^20 draws.
+    pub fn cost(&self, d: u64) -> Result<u64, CostFault>
+        requires { d ≤ 2 ^ 32 }
+        ensures { let m = ⟦<Release as Measurement>⟧.mechanism self.now in result ≡ cost_of m d }
+    {
+        let Ok(loss) = self.loss(d) else {
+            return Err(CostFault::Distance);
+        };
+        if self.draws() > MOST_DRAWS {
+            return Err(CostFault::Draws);
+        }
+        Ok(loss)
+    }
+
+    /// The parts, each a line and the measurement of what it gives.
+    pub fn parts(&self) -> &[MeasuredLine]
+        ensures { result.now ≡ release_parts self.now }
+    {
+        self.parts.as_slice()
+    }
 }
 
 impl Measurement for Release {
@@ -87,6 +132,60 @@ impl Measurement for Release {
     ghost law = { λ r. release_law ⟦<Measured<Line, AnyMeasurement> as Measurement>⟧.mechanism
         (λ m. measured_law (⟦<Line as Transformation>⟧.mapping m.first) (⟦<AnyMeasurement as Measurement>⟧.mechanism m.second) (line_law m.first) (noise_law m.second) m.domains m.metrics)
         record { p = r.ratio.p; q = r.ratio.q } r.domain r.metric r.parts.items r.fits r.suits (r.ratio.positive, r.ratio.below_one, r.ratio.small) r.few r.alike };
+}
+
+/// The release of the parts, made from first to last.
+fn make_release(
+    alloc: Global,
+    domain: Domain,
+    metric: Metric,
+    ratio: Ratio,
+    parts: &[Part],
+) -> Result<Release, MakeFault>
+    requires fits { Fits domain }
+    requires some { 1 ≤ length parts.now }
+    requires few { length parts.now ≤ 16 }
+    ensures made { MakesOr ⟦<Release as Measurement>⟧.mechanism result (release_on record { p = ratio.p; q = ratio.q } parts.now domain metric) }
+    ensures nothing_at_0 { IfOk result (λ release. let m = ⟦<Release as Measurement>⟧.mechanism release in m.privacy_map 0 ≡ Some 0) }
+{
+    let mut made = Vec::new(alloc);
+    for part in parts {
+        let next = match make_part(alloc, domain, metric, ratio, part) {
+            Ok(next) => next,
+            Err(fault) => return Err(fault),
+        };
+        append(&mut made, next)?;
+    }
+    Ok(Release {
+        domain,
+        metric,
+        ratio,
+        parts: made,
+    })
+}
+
+/// The line of a part, and the measurement of what it gives.
+fn make_part(
+    alloc: Global,
+    domain: Domain,
+    metric: Metric,
+    ratio: Ratio,
+    part: &Part,
+) -> Result<MeasuredLine, MakeFault>
+    requires { Fits domain }
+    ensures made { MakesOr ⟦<Measured<Line, AnyMeasurement> as Measurement>⟧.mechanism result (part_on record { p = ratio.p; q = ratio.q } part.now domain metric) }
+    ensures alike { IfOk result (λ made. IsLike record { p = ratio.p; q = ratio.q } domain metric (⟦<Measured<Line, AnyMeasurement> as Measurement>⟧.mechanism made)) }
+{
+    let line = match Line::make(alloc, domain, metric, &part.stages) {
+        Ok(line) => line,
+        Err(fault) => return Err(fault),
+    };
+    let to_domain = line.out_domain();
+    let to_metric = line.out_metric();
+    match AnyMeasurement::make(alloc, to_domain, to_metric, ratio, &part.noise) {
+        Ok(noise) => Ok(Measured::joined(line, noise)),
+        Err(fault) => Err(fault),
+    }
 }
 
 /// How many draws the parts take.
