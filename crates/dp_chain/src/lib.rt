@@ -23,3 +23,6 @@ pub use measured::Measured;
 pub use noise::{Noise, Part, ReleaseSpec};
 pub use release::{MeasuredLine, Release};
 pub use stage::{Stage, Stages};
+
+#[cfg(test)]
+mod tests;
