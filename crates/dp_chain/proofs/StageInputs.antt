@@ -1,6 +1,6 @@
 -- A stage and a noise that are made take the domain and the metric on which they are made.
 use Rattle.std.proofs.Common.{◌≡◌, Bool, true, false, ◌&&◌, ℕ, Option, Some, None, Ok, Err, List, [], ◌∷◌, refl, sym, ◌∙◌, arith}
-use Rattle.std.specs.Prelude.{Result, if◌then◌else◌, nat_le}
+use Rattle.std.specs.Prelude.{Result, if◌then◌else◌, nat_lt, nat_le}
 use Rattle.dp_num.specs.Limits.{Fraction, powers}
 use Rattle.dp_domain.specs.declared.domains.Domain.{Domain}
 use Rattle.dp_domain.specs.declared.domains.Domain.TheVariants as domain
@@ -11,6 +11,7 @@ use Rattle.dp_law.specs.declared.refusals.Refused.TheVariants as refused
 use Rattle.dp_law.specs.Making.{tested, is_symmetric, is_change_one, list_metric, is_list_metric, is_unsized}
 use Rattle.dp_law.specs.Mapping.{Mapping}
 use Rattle.dp_law.specs.Mechanism.{Mechanism}
+use Rattle.dp_rowwise.specs.Filter.{compares_rows}
 use Rattle.dp_aggregate.specs.OneNumber.{is_absolute}
 use Rattle.dp_aggregate.specs.Count.{has_lists, has_unsized_lists, count_mapping, count_from}
 use Rattle.dp_chain.specs.Lines.{stages_on, AreJoined}
@@ -57,7 +58,7 @@ count-takes false domain metric = tt
 
 pub stage-takes : (s : Stage) (d : Domain) (m : Metric) → Takes (stage_on s d m) d m
 unfolding stage_on
-stage-takes (stage.Filter column text) (domain.Rows columns) m = tested-takes (is_symmetric m) _ _ _ m refl (symmetric-is m)
+stage-takes (stage.Filter column text) (domain.Rows columns) m = tested-takes (compares_rows columns m) _ _ _ m refl (λ told. refl)
 stage-takes (stage.Filter column text) d m = tt
 stage-takes (stage.Select column) (domain.Rows columns) m = tested-takes (is_symmetric m) _ _ _ m refl (symmetric-is m)
 stage-takes (stage.Select column) d m = tt
@@ -85,3 +86,6 @@ stage-takes (stage.Quantise step) (domain.Int lo hi) m = tested-takes (is_absolu
 stage-takes (stage.Quantise step) d m = tt
 stage-takes (stage.AtLeast edges) (domain.Int lo hi) m = tested-takes (is_absolute m) _ _ _ m refl (absolute-is m)
 stage-takes (stage.AtLeast edges) d m = tt
+stage-takes (stage.Truncate most) (domain.Rows columns) (metrics.Users column) = tested-takes (nat_lt column columns) _ _ _ (metrics.Users column) refl (λ told. refl)
+stage-takes (stage.Truncate most) (domain.Rows columns) m = tt
+stage-takes (stage.Truncate most) d m = tt

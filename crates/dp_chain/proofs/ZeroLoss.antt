@@ -77,6 +77,9 @@ stage-zero (stage.Quantise step) (domain.Int lo hi) m = tested-zero _ _ _ (cappe
 stage-zero (stage.Quantise step) d m = tt
 stage-zero (stage.AtLeast edges) (domain.Int lo hi) m = tested-zero _ _ _ refl
 stage-zero (stage.AtLeast edges) d m = tt
+stage-zero (stage.Truncate most) (domain.Rows columns) (metrics.Users column) = tested-zero _ _ _ (capped-zero (2 * most * 0) (omega arith))
+stage-zero (stage.Truncate most) (domain.Rows columns) m = tt
+stage-zero (stage.Truncate most) d m = tt
 
 -- a line of such stages
 line-zero : (first : Result Mapping Refused) (ss : List Stage) (line : List Mapping) → ZeroAt first → ((made : Mapping) (rest : List Mapping) → stages_on ss made.output_domain made.output_metric ≡ Ok rest → line_map rest 0 ≡ Some 0) →

@@ -14,6 +14,7 @@ use Rattle.dp_rowwise.specs.Impute.{impute_from}
 use Rattle.dp_rowwise.specs.DropNone.{drop_none_from}
 use Rattle.dp_rowwise.specs.Clamp.{clamp_from}
 use Rattle.dp_rowwise.specs.Bins.{bins_from}
+use Rattle.dp_rowwise.specs.Truncate.{truncate_from}
 use Rattle.dp_aggregate.specs.Resize.{resize_from}
 use Rattle.dp_aggregate.specs.Count.{count_from}
 use Rattle.dp_aggregate.specs.Sum.{sum_from}
@@ -44,6 +45,7 @@ stage_on stage.Sum domain metric = sum_from domain metric
 stage_on stage.Histogram domain metric = histogram_from domain metric
 stage_on (stage.Quantise step) domain metric = quantise_from step domain metric
 stage_on (stage.AtLeast edges) domain metric = at_least_from edges domain metric
+stage_on (stage.Truncate most) domain metric = truncate_from most domain metric
 
 -- the measurement of the noise with the ratio, or its refusal
 unfoldable pub noise_on : Fraction → Noise → Domain → Metric → Result Mechanism Refused

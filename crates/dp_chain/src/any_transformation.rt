@@ -8,7 +8,7 @@ use dp_count::NoMemory;
 use dp_domain::{Domain, Duplicate, Metric, Value};
 use dp_law::{MakeFault, Transformation};
 use dp_num::Past;
-use dp_rowwise::{Bins, Cast, Categories, Clamp, DropNone, Filter, Impute, Select};
+use dp_rowwise::{Bins, Cast, Categories, Clamp, DropNone, Filter, Impute, Select, Truncate};
 use std::alloc::Global;
 
 /// Any transformation that a stage makes.
@@ -42,6 +42,8 @@ pub enum AnyTransformation {
     Quantise(Quantise),
     /// Puts a number between edges.
     AtLeast(AtLeast),
+    /// Keeps few records of each person.
+    Truncate(Truncate),
 }
 
 // The same of whichever transformation it is.
@@ -62,6 +64,7 @@ macro_rules! of_each {
             AnyTransformation::Histogram($part) => $same,
             AnyTransformation::Quantise($part) => $same,
             AnyTransformation::AtLeast($part) => $same,
+            AnyTransformation::Truncate($part) => $same,
         }
     };
 }
@@ -113,6 +116,7 @@ impl AnyTransformation {
                 metric,
                 edges.duplicate(alloc)?.into_vec(),
             )?)),
+            Stage::Truncate { most } => Ok(AnyTransformation::Truncate(Truncate::new(domain, metric, *most)?)),
         }
     }
 }
@@ -135,6 +139,7 @@ impl Transformation for AnyTransformation {
         | any.Histogram t ↦ ⟦<Histogram as Transformation>⟧.mapping t
         | any.Quantise t ↦ ⟦<Quantise as Transformation>⟧.mapping t
         | any.AtLeast t ↦ ⟦<AtLeast as Transformation>⟧.mapping t
+        | any.Truncate t ↦ ⟦<Truncate as Transformation>⟧.mapping t
     ] };
 
     fn in_domain(&self) -> Domain {
@@ -161,20 +166,21 @@ impl Transformation for AnyTransformation {
         of_each!(self, part => part.apply(alloc, v))
     }
 
-    ghost use Rattle.dp_rowwise.specs.contracts.filtering.FilterTransformation.TheImpl.Laws.{law-law as filter_law};
-    ghost use Rattle.dp_rowwise.specs.contracts.selecting.SelectTransformation.TheImpl.Laws.{law-law as select_law};
-    ghost use Rattle.dp_rowwise.specs.contracts.casting.CastTransformation.TheImpl.Laws.{law-law as cast_law};
-    ghost use Rattle.dp_rowwise.specs.contracts.categorising.CategoriesTransformation.TheImpl.Laws.{law-law as categories_law};
-    ghost use Rattle.dp_rowwise.specs.contracts.imputing.ImputeTransformation.TheImpl.Laws.{law-law as impute_law};
-    ghost use Rattle.dp_rowwise.specs.contracts.dropping.DropNoneTransformation.TheImpl.Laws.{law-law as drop_none_law};
-    ghost use Rattle.dp_rowwise.specs.contracts.clamping.ClampTransformation.TheImpl.Laws.{law-law as clamp_law};
-    ghost use Rattle.dp_rowwise.specs.contracts.binning.BinsTransformation.TheImpl.Laws.{law-law as bins_law};
+    ghost use Rattle.dp_rowwise.specs.contracts.filter.FilterTransformation.TheImpl.Laws.{law-law as filter_law};
+    ghost use Rattle.dp_rowwise.specs.contracts.select.SelectTransformation.TheImpl.Laws.{law-law as select_law};
+    ghost use Rattle.dp_rowwise.specs.contracts.cast.CastTransformation.TheImpl.Laws.{law-law as cast_law};
+    ghost use Rattle.dp_rowwise.specs.contracts.categories.CategoriesTransformation.TheImpl.Laws.{law-law as categories_law};
+    ghost use Rattle.dp_rowwise.specs.contracts.impute.ImputeTransformation.TheImpl.Laws.{law-law as impute_law};
+    ghost use Rattle.dp_rowwise.specs.contracts.drop_none.DropNoneTransformation.TheImpl.Laws.{law-law as drop_none_law};
+    ghost use Rattle.dp_rowwise.specs.contracts.clamp.ClampTransformation.TheImpl.Laws.{law-law as clamp_law};
+    ghost use Rattle.dp_rowwise.specs.contracts.bins.BinsTransformation.TheImpl.Laws.{law-law as bins_law};
     ghost use Rattle.dp_aggregate.specs.contracts.resizing.ResizeTransformation.TheImpl.Laws.{law-law as resize_law};
     ghost use Rattle.dp_aggregate.specs.contracts.counting.CountTransformation.TheImpl.Laws.{law-law as count_law};
     ghost use Rattle.dp_aggregate.specs.contracts.summing.SumTransformation.TheImpl.Laws.{law-law as sum_law};
     ghost use Rattle.dp_aggregate.specs.contracts.frequencies.HistogramTransformation.TheImpl.Laws.{law-law as histogram_law};
     ghost use Rattle.dp_aggregate.specs.contracts.quantising.QuantiseTransformation.TheImpl.Laws.{law-law as quantise_law};
     ghost use Rattle.dp_aggregate.specs.contracts.reaching.AtLeastTransformation.TheImpl.Laws.{law-law as at_least_law};
+    ghost use Rattle.dp_rowwise.specs.contracts.truncate.TruncateTransformation.TheImpl.Laws.{law-law as truncate_law};
 
     ghost law = { elim [
         | any.Filter t ↦ filter_law t
@@ -191,5 +197,6 @@ impl Transformation for AnyTransformation {
         | any.Histogram t ↦ histogram_law t
         | any.Quantise t ↦ quantise_law t
         | any.AtLeast t ↦ at_least_law t
+        | any.Truncate t ↦ truncate_law t
     ] };
 }

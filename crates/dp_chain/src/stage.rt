@@ -64,6 +64,11 @@ pub enum Stage {
         /// The edges.
         edges: Ints,
     },
+    /// The least records of each person.
+    Truncate {
+        /// How many of each.
+        most: u64,
+    },
 }
 
 /// Stages in order.

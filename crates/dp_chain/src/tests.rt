@@ -10,9 +10,9 @@ use dp_count::NoMemory;
 use dp_domain::{Domain, Items, Metric, Text, Value};
 use dp_draws::Replay;
 use dp_geometric::Geometric;
-use dp_law::{Answer, MakeFault, Measurement, Piece, Refused, ReleaseFault, Transformation};
+use dp_law::{Answer, MakeFault, Measurement, Piece, ReleaseFault, Transformation};
 use dp_num::Ratio;
-use dp_rowwise::Clamp;
+use dp_rowwise::{Clamp, Filter, Select};
 use std::alloc::Global;
 use std::process::Abort;
 use std::test::Fail;
@@ -101,6 +101,28 @@ fn bounds<M: Measurement>(rt: &impl Abort, alloc: Global, m: &M) -> Result<Vec<u
     Ok(bounds)
 }
 
+/// The number that a transformation gives on a value of its input domain.
+fn number_of<T: Transformation>(rt: &impl Abort, alloc: Global, part: &T, v: &Value) -> i64 {
+    let domain = part.in_domain();
+    assert!(rt; domain.fits());
+    assert!(rt; domain.has(v));
+    match part.apply(alloc, v) {
+        Ok(Value::Int(number)) => number,
+        _ => panic!(rt; "a number"),
+    }
+}
+
+/// How many records a transformation gives on a value of its input domain.
+fn records_of<T: Transformation>(rt: &impl Abort, alloc: Global, part: &T, v: &Value) -> u64 {
+    let domain = part.in_domain();
+    assert!(rt; domain.fits());
+    assert!(rt; domain.has(v));
+    match part.apply(alloc, v) {
+        Ok(Value::Rows(rows)) => rows.len(),
+        _ => panic!(rt; "records"),
+    }
+}
+
 fn is_int(piece: &Piece, wanted: i64) -> bool {
     matches!(piece, Piece::Int(number) if *number == wanted)
 }
@@ -120,8 +142,7 @@ fn a_clamp_and_a_sum_are_chained_where_their_domains_are_the_same(
     );
     assert_eq!(rt; chain.map(1), Ok(5));
     let value = Value::Ints(Items::from_vec(Vec::from_slice(rt.alloc(), &[9, 2])?));
-    assert!(rt; chain.in_domain().has(&value));
-    assert!(rt; matches!(chain.apply(rt.alloc(), &value), Ok(Value::Int(7))));
+    assert_eq!(rt; number_of(&rt, rt.alloc(), &chain, &value), 7);
     Ok(())
 }
 
@@ -182,8 +203,7 @@ fn a_line_without_stages_changes_nothing(rt: HostRuntime) -> Result<(), Fail> {
     assert!(rt; none.out_domain() == Domain::Rows { columns: 2 });
     assert!(rt; none.out_metric() == Metric::Symmetric);
     let value = one_record(rt.alloc(), "a", "7")?;
-    assert!(rt; none.in_domain().has(&value));
-    assert!(rt; matches!(none.apply(rt.alloc(), &value), Ok(Value::Rows(rows)) if rows.len() == 1));
+    assert_eq!(rt; records_of(&rt, rt.alloc(), &none, &value), 1);
     Ok(())
 }
 
@@ -204,8 +224,7 @@ fn a_line_goes_through_its_stages_in_order(rt: HostRuntime) -> Result<(), Fail> 
     assert_eq!(rt; total.map(2), Ok(18));
     assert_eq!(rt; total.map(477_218_589), Err(dp_num::Past));
     let value = one_record(rt.alloc(), "a", "12")?;
-    assert!(rt; total.in_domain().has(&value));
-    assert!(rt; matches!(total.apply(rt.alloc(), &value), Ok(Value::Int(9))));
+    assert_eq!(rt; number_of(&rt, rt.alloc(), &total, &value), 9);
     Ok(())
 }
 
@@ -318,4 +337,16 @@ fn a_release_has_at_most_a_million_draws(rt: HostRuntime) {
     assert_eq!(rt; cost_of(&rt, alloc, counting_each(alloc, 15), 1), Ok(1));
     assert_eq!(rt; cost_of(&rt, alloc, counting_each(alloc, 16), 1), Err(CostFault::Draws));
     assert_eq!(rt; cost_of(&rt, alloc, counting_each(alloc, 16), 4_294_967_296), Err(CostFault::Draws));
+}
+
+#[test]
+fn a_filter_of_persons_gives_persons_and_a_selection_takes_records(rt: HostRuntime) {
+    let rows = Domain::Rows { columns: 2 };
+    let (Ok(filter), Ok(select)) = (
+        Filter::new(rows, Metric::Users(0), 1, Vec::new(rt.alloc())),
+        Select::new(rows, Metric::Symmetric, 1),
+    ) else {
+        panic!(&rt; "made");
+    };
+    assert!(rt; matches!(Chain::new(filter, select), Err(JoinFault::Metric)));
 }
