@@ -12,7 +12,8 @@ use Rattle.dp_runner.specs.declared.form.Form.TheVariants as form
 use Rattle.dp_runner.specs.declared.stop.Stop.{Stop}
 use Rattle.dp_runner.specs.declared.stop.Stop.TheVariants as stop
 use Rattle.dp_runner.specs.RawRecords.{raw}
-use Rattle.dp_runner.specs.Outcome.{Source, ◌>>=◌, or_stop, written_last}
+use Rattle.dp_count.specs.Results.{◌>>=◌}
+use Rattle.dp_runner.specs.Outcome.{Source, or_stop, written_last}
 use Rattle.dp_runner.specs.Texts.{text_within, file_text, drawn}
 use Rattle.dp_runner.specs.Count.{CountForm, counted, cell_draws, cell_answer, count_answer, answer_line, count_written}
 use Rattle.dp_runner.specs.Forms.{form_of, command_if, outcome}

@@ -6,7 +6,8 @@ use Rattle.dp_io.specs.Shelf.{Files}
 use Rattle.dp_runner.specs.declared.stop.Stop.{Stop}
 use Rattle.dp_runner.specs.declared.stop.Stop.TheVariants as stop
 use Rattle.dp_runner.specs.RawRecords.{raw, raw_up_to}
-use Rattle.dp_runner.specs.Outcome.{◌>>=◌, or_stop}
+use Rattle.dp_count.specs.Results.{◌>>=◌}
+use Rattle.dp_runner.specs.Outcome.{or_stop}
 use Rattle.dp_runner.specs.Texts.{file_text, drawn}
 use Rattle.dp_runner.specs.Count.{CountForm, counted, cell_draws, cell_answer, count_answer}
 use Rattle.dp_runner.proofs.Steps.{bind-ok, bind-err}

@@ -5,7 +5,7 @@ use Rattle.dp_io.specs.Shelf.{Files}
 use Rattle.dp_runner.specs.declared.stop.Stop.{Stop}
 use Rattle.dp_runner.specs.declared.stop.Stop.TheVariants as stop
 use Rattle.dp_runner.specs.Causes.{HasReason}
-use Rattle.dp_runner.specs.Outcome.{◌>>=◌}
+use Rattle.dp_count.specs.Results.{◌>>=◌}
 
 pub bind-ok : {A B : Type 0} (r : Result A Stop) (next : A → Result B Stop) (x : A) → r ≡ Ok x → (r >>= next) ≡ next x
 bind-ok r next x e = ap (λ w. w >>= next) e

@@ -8,7 +8,8 @@ use Rattle.dp_draws.specs.Sources.{replay_step}
 use Rattle.dp_geometric.specs.OneCell.{cell_shape, cell_out}
 use Rattle.dp_runner.specs.declared.stop.Stop.{Stop}
 use Rattle.dp_runner.specs.declared.stop.Stop.TheVariants as stop
-use Rattle.dp_runner.specs.Outcome.{Command, ◌>>=◌, or_stop, written_last}
+use Rattle.dp_count.specs.Results.{◌>>=◌}
+use Rattle.dp_runner.specs.Outcome.{Command, or_stop, written_last}
 use Rattle.dp_runner.specs.RawRecords.{raw}
 use Rattle.dp_runner.specs.Texts.{file_text, drawn}
 use Rattle.dp_runner.specs.Words.{is_file_name}

@@ -30,12 +30,6 @@ pub record Command : Type 0 where
   -- whether it leaves the draw source that is handed in as it was
   pub keeps_source : Bool
 
--- the next step of a run that has not ended yet
-infixl 10 ◌>>=◌
-abbrev pub ◌>>=◌ : {A B : Type 0} → Result A Stop → (A → Result B Stop) → Result B Stop
-Ok x >>= next = next x
-Err reason >>= next = Err reason
-
 -- a value, or else the end of the run
 abbrev pub or_stop : {A : Type 0} → Stop → Option A → Result A Stop
 or_stop reason None = Err reason

@@ -4,7 +4,7 @@ use Rattle.dp_io.specs.Shelf.{Files}
 use Rattle.dp_draws.specs.Numbers.{drawn_numbers}
 use Rattle.dp_runner.specs.declared.stop.Stop.{Stop}
 use Rattle.dp_runner.specs.declared.stop.Stop.TheVariants as stop
-use Rattle.dp_runner.specs.Outcome.{◌>>=◌}
+use Rattle.dp_count.specs.Results.{◌>>=◌}
 
 -- a text of at most so many bytes, if the file is there
 abbrev pub text_within : ℕ → Option (List ℕ) → Result (List ℕ) Stop
