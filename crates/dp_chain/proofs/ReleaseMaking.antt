@@ -173,7 +173,7 @@ module _ {T : Type 0} (f : T → Mechanism) where
       forward
       ∙ ap (λ (ps : List Part). on_ok (λ rest. map f made ++ rest) (parts_on ratio ps d m)) (left-cons all i part h is)
       ∙ ap (λ (r : Result (List Mechanism) Refused). on_ok (λ rest. map f made ++ rest) r)
-        (parts-more ratio part left d m ∙ ap (λ (r : Result Mechanism Refused). first_and ratio r left d m) part_is ∙ as-on_ok (parts_on ratio left d m) (f next))
+      (parts-more ratio part left d m ∙ ap (λ (r : Result Mechanism Refused). first_and ratio r left d m) part_is ∙ as-on_ok (parts_on ratio left d m) (f next))
       ∙ on_ok-append (map f made) (f next) (parts_on ratio left d m)
       ∙ ap (λ (ms : List Mechanism). on_ok (λ rest. ms ++ rest) (parts_on ratio left d m)) (sym (ap (λ (ts : List T). map f ts) grown ∙ map-append f made (next ∷ [])))
 
@@ -186,7 +186,7 @@ module _ {T : Type 0} (f : T → Mechanism) where
       (forward
       ∙ ap (λ (ps : List Part). on_ok (λ rest. map f made ++ rest) (parts_on ratio ps d m)) (left-cons all i part h is)
       ∙ ap (λ (r : Result (List Mechanism) Refused). on_ok (λ rest. map f made ++ rest) r)
-        (parts-more ratio part (drop (i + 1) all) d m ∙ ap (λ (r : Result Mechanism Refused). first_and ratio r (drop (i + 1) all) d m) part_is))
+      (parts-more ratio part (drop (i + 1) all) d m ∙ ap (λ (r : Result Mechanism Refused). first_and ratio r (drop (i + 1) all) d m) part_is))
 
   pub release-fault : {R : Type 0} (meaning : R → Mechanism) (ratio : Fraction) (all : List Part) (i : ℕ) (part : Part) (d : Domain) (m : Metric) (made : List T) (why : MakeFault) →
       i < length all → part ≡ slice_index_or all i part →

@@ -1,6 +1,8 @@
 pub mod Joins
 pub mod Lines
 pub mod LinesProof
+pub mod Meanings
+pub mod PartMeanings
 pub mod Release
 pub mod Releases
 pub mod ReleasesProof

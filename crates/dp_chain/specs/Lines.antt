@@ -58,7 +58,8 @@ line_on stages domain metric = on_ok (composed domain metric) (stages_on stages 
 unfoldable pub AreJoined : Domain → Metric → List Mapping → Type 0
 AreJoined domain metric [] = Unit {0}
 AreJoined domain metric (first ∷ rest) =
-    (first.input_domain ≡ domain) × (first.input_metric ≡ metric) × AreJoined first.output_domain first.output_metric rest
+    (first.input_domain ≡ domain) × (first.input_metric ≡ metric)
+    × AreJoined first.output_domain first.output_metric rest
 
 -- each transformation has in its input domain what those before it give
 unfoldable pub Runs : List Mapping → Value → Type 0

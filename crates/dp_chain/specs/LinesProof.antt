@@ -38,7 +38,7 @@ line_law mapping law domain metric (first ∷ rest) fits joined =
     let m = mapping first in
     let whole = first_law m (map mapping rest) (law first) (line_law mapping law m.output_domain m.output_metric rest (law first).output_fits joined.2) in
     let domain_is : IsStable (composed domain m.input_metric (m ∷ map mapping rest)) =
-        subst (λ (d : Domain). IsStable (composed d m.input_metric (m ∷ map mapping rest))) joined.0 whole in
+    subst (λ (d : Domain). IsStable (composed d m.input_metric (m ∷ map mapping rest))) joined.0 whole in
     subst (λ (n : Metric). IsStable (composed domain n (m ∷ map mapping rest))) joined.1 domain_is
 
 -- that a line is joined is a fact with one proof, so that a ghost field may keep it

@@ -1,5 +1,6 @@
 ghost use Rattle.dp_domain.specs.Domains.{Fits};
 ghost use Rattle.dp_law.specs.Making.{MakesOr};
+ghost use Rattle.dp_chain.specs.Meanings.{fraction_of};
 ghost use Rattle.dp_chain.specs.Stages.{noise_on};
 
 use crate::noise::Noise;
@@ -46,13 +47,16 @@ impl AnyMeasurement {
         noise: &Noise,
     ) -> Result<AnyMeasurement, MakeFault>
         requires { Fits domain }
-        ensures { MakesOr ⟦<AnyMeasurement as Measurement>⟧.mechanism result (noise_on record { p = ratio.p; q = ratio.q } noise.now domain metric) }
+        ensures { MakesOr ⟦<AnyMeasurement as Measurement>⟧.mechanism result
+            (noise_on (fraction_of ratio) noise.now domain metric) }
     {
         match noise {
             Noise::Geometric { u, lo, hi } => Ok(AnyMeasurement::Geometric(Geometric::new(
                 domain, metric, ratio, *u, *lo, *hi,
             )?)),
-            Noise::Response { u } => Ok(AnyMeasurement::Response(Response::new(domain, metric, ratio, *u)?)),
+            Noise::Response { u } => Ok(AnyMeasurement::Response(Response::new(
+                domain, metric, ratio, *u,
+            )?)),
             Noise::Choice { u, floor, top } => Ok(AnyMeasurement::Choice(Choice::new(
                 alloc, domain, metric, ratio, *u, *floor, *top,
             )?)),
@@ -67,9 +71,9 @@ impl Measurement for AnyMeasurement {
     ghost use Rattle.dp_choice.specs.contracts.choosing.ChoiceMeasurement.TheImpl.Laws.{law-law as choice_law};
 
     ghost mechanism = { elim [
-        | any.Geometric m ↦ ⟦<Geometric as Measurement>⟧.mechanism m
-        | any.Response m ↦ ⟦<Response as Measurement>⟧.mechanism m
-        | any.Choice m ↦ ⟦<Choice as Measurement>⟧.mechanism m
+      | any.Geometric m ↦ ⟦<Geometric as Measurement>⟧.mechanism m
+      | any.Response m ↦ ⟦<Response as Measurement>⟧.mechanism m
+      | any.Choice m ↦ ⟦<Choice as Measurement>⟧.mechanism m
     ] };
 
     fn in_domain(&self) -> Domain {
@@ -106,8 +110,8 @@ impl Measurement for AnyMeasurement {
     }
 
     ghost law = { elim [
-        | any.Geometric m ↦ geometric_law m
-        | any.Response m ↦ response_law m
-        | any.Choice m ↦ choice_law m
+      | any.Geometric m ↦ geometric_law m
+      | any.Response m ↦ response_law m
+      | any.Choice m ↦ choice_law m
     ] };
 }

@@ -79,7 +79,8 @@ impl AnyTransformation {
         stage: &Stage,
     ) -> Result<AnyTransformation, MakeFault>
         requires { Fits domain }
-        ensures { MakesOr ⟦<AnyTransformation as Transformation>⟧.mapping result (stage_on stage.now domain metric) }
+        ensures { MakesOr ⟦<AnyTransformation as Transformation>⟧.mapping result
+            (stage_on stage.now domain metric) }
     {
         match stage {
             Stage::Filter { column, text } => Ok(AnyTransformation::Filter(Filter::new(
@@ -88,7 +89,9 @@ impl AnyTransformation {
                 *column,
                 text.duplicate(alloc)?.into_vec(),
             )?)),
-            Stage::Select { column } => Ok(AnyTransformation::Select(Select::new(domain, metric, *column)?)),
+            Stage::Select { column } => Ok(AnyTransformation::Select(Select::new(
+                domain, metric, *column,
+            )?)),
             Stage::Cast => Ok(AnyTransformation::Cast(Cast::new(domain, metric)?)),
             Stage::Categories { texts } => Ok(AnyTransformation::Categories(Categories::new(
                 alloc,
@@ -96,9 +99,13 @@ impl AnyTransformation {
                 metric,
                 texts.duplicate(alloc)?,
             )?)),
-            Stage::Impute { value } => Ok(AnyTransformation::Impute(Impute::new(domain, metric, *value)?)),
+            Stage::Impute { value } => Ok(AnyTransformation::Impute(Impute::new(
+                domain, metric, *value,
+            )?)),
             Stage::DropNone => Ok(AnyTransformation::DropNone(DropNone::new(domain, metric)?)),
-            Stage::Clamp { lo, hi } => Ok(AnyTransformation::Clamp(Clamp::new(domain, metric, *lo, *hi)?)),
+            Stage::Clamp { lo, hi } => Ok(AnyTransformation::Clamp(Clamp::new(
+                domain, metric, *lo, *hi,
+            )?)),
             Stage::Bins { edges } => Ok(AnyTransformation::Bins(Bins::new(
                 domain,
                 metric,
@@ -110,13 +117,17 @@ impl AnyTransformation {
             Stage::Count => Ok(AnyTransformation::Count(Count::new(domain, metric)?)),
             Stage::Sum => Ok(AnyTransformation::Sum(Sum::new(domain, metric)?)),
             Stage::Histogram => Ok(AnyTransformation::Histogram(Histogram::new(domain, metric)?)),
-            Stage::Quantise { step } => Ok(AnyTransformation::Quantise(Quantise::new(domain, metric, *step)?)),
+            Stage::Quantise { step } => Ok(AnyTransformation::Quantise(Quantise::new(
+                domain, metric, *step,
+            )?)),
             Stage::AtLeast { edges } => Ok(AnyTransformation::AtLeast(AtLeast::new(
                 domain,
                 metric,
                 edges.duplicate(alloc)?.into_vec(),
             )?)),
-            Stage::Truncate { most } => Ok(AnyTransformation::Truncate(Truncate::new(domain, metric, *most)?)),
+            Stage::Truncate { most } => Ok(AnyTransformation::Truncate(Truncate::new(
+                domain, metric, *most,
+            )?)),
         }
     }
 }
@@ -125,21 +136,21 @@ impl Transformation for AnyTransformation {
     ghost use Rattle.dp_chain.specs.declared.any_transformation.AnyTransformation.TheVariants as any;
 
     ghost mapping = { elim [
-        | any.Filter t ↦ ⟦<Filter as Transformation>⟧.mapping t
-        | any.Select t ↦ ⟦<Select as Transformation>⟧.mapping t
-        | any.Cast t ↦ ⟦<Cast as Transformation>⟧.mapping t
-        | any.Categories t ↦ ⟦<Categories as Transformation>⟧.mapping t
-        | any.Impute t ↦ ⟦<Impute as Transformation>⟧.mapping t
-        | any.DropNone t ↦ ⟦<DropNone as Transformation>⟧.mapping t
-        | any.Clamp t ↦ ⟦<Clamp as Transformation>⟧.mapping t
-        | any.Bins t ↦ ⟦<Bins as Transformation>⟧.mapping t
-        | any.Resize t ↦ ⟦<Resize as Transformation>⟧.mapping t
-        | any.Count t ↦ ⟦<Count as Transformation>⟧.mapping t
-        | any.Sum t ↦ ⟦<Sum as Transformation>⟧.mapping t
-        | any.Histogram t ↦ ⟦<Histogram as Transformation>⟧.mapping t
-        | any.Quantise t ↦ ⟦<Quantise as Transformation>⟧.mapping t
-        | any.AtLeast t ↦ ⟦<AtLeast as Transformation>⟧.mapping t
-        | any.Truncate t ↦ ⟦<Truncate as Transformation>⟧.mapping t
+      | any.Filter t ↦ ⟦<Filter as Transformation>⟧.mapping t
+      | any.Select t ↦ ⟦<Select as Transformation>⟧.mapping t
+      | any.Cast t ↦ ⟦<Cast as Transformation>⟧.mapping t
+      | any.Categories t ↦ ⟦<Categories as Transformation>⟧.mapping t
+      | any.Impute t ↦ ⟦<Impute as Transformation>⟧.mapping t
+      | any.DropNone t ↦ ⟦<DropNone as Transformation>⟧.mapping t
+      | any.Clamp t ↦ ⟦<Clamp as Transformation>⟧.mapping t
+      | any.Bins t ↦ ⟦<Bins as Transformation>⟧.mapping t
+      | any.Resize t ↦ ⟦<Resize as Transformation>⟧.mapping t
+      | any.Count t ↦ ⟦<Count as Transformation>⟧.mapping t
+      | any.Sum t ↦ ⟦<Sum as Transformation>⟧.mapping t
+      | any.Histogram t ↦ ⟦<Histogram as Transformation>⟧.mapping t
+      | any.Quantise t ↦ ⟦<Quantise as Transformation>⟧.mapping t
+      | any.AtLeast t ↦ ⟦<AtLeast as Transformation>⟧.mapping t
+      | any.Truncate t ↦ ⟦<Truncate as Transformation>⟧.mapping t
     ] };
 
     fn in_domain(&self) -> Domain {
@@ -183,20 +194,20 @@ impl Transformation for AnyTransformation {
     ghost use Rattle.dp_rowwise.specs.contracts.truncate.TruncateTransformation.TheImpl.Laws.{law-law as truncate_law};
 
     ghost law = { elim [
-        | any.Filter t ↦ filter_law t
-        | any.Select t ↦ select_law t
-        | any.Cast t ↦ cast_law t
-        | any.Categories t ↦ categories_law t
-        | any.Impute t ↦ impute_law t
-        | any.DropNone t ↦ drop_none_law t
-        | any.Clamp t ↦ clamp_law t
-        | any.Bins t ↦ bins_law t
-        | any.Resize t ↦ resize_law t
-        | any.Count t ↦ count_law t
-        | any.Sum t ↦ sum_law t
-        | any.Histogram t ↦ histogram_law t
-        | any.Quantise t ↦ quantise_law t
-        | any.AtLeast t ↦ at_least_law t
-        | any.Truncate t ↦ truncate_law t
+      | any.Filter t ↦ filter_law t
+      | any.Select t ↦ select_law t
+      | any.Cast t ↦ cast_law t
+      | any.Categories t ↦ categories_law t
+      | any.Impute t ↦ impute_law t
+      | any.DropNone t ↦ drop_none_law t
+      | any.Clamp t ↦ clamp_law t
+      | any.Bins t ↦ bins_law t
+      | any.Resize t ↦ resize_law t
+      | any.Count t ↦ count_law t
+      | any.Sum t ↦ sum_law t
+      | any.Histogram t ↦ histogram_law t
+      | any.Quantise t ↦ quantise_law t
+      | any.AtLeast t ↦ at_least_law t
+      | any.Truncate t ↦ truncate_law t
     ] };
 }

@@ -19,7 +19,8 @@ pub struct Both<M1: Measurement, M2: Measurement> {
     ghost domains: { let a = M1.mechanism first in let b = M2.mechanism second in a.input_domain ≡ b.input_domain },
     ghost metrics: { let a = M1.mechanism first in let b = M2.mechanism second in a.input_metric ≡ b.input_metric },
     ghost ratios: { let a = M1.mechanism first in let b = M2.mechanism second in a.ratio ≡ b.ratio },
-    ghost few_draws: { let a = M1.mechanism first in let b = M2.mechanism second in length a.shape + length b.shape ≤ 2 ^ 40 },
+    ghost few_draws: { let a = M1.mechanism first in let b = M2.mechanism second in
+        length a.shape + length b.shape ≤ 2 ^ 40 },
     ghost few_pieces: { let a = M1.mechanism first in let b = M2.mechanism second in a.pieces + b.pieces ≤ 2 ^ 31 },
 }
 
@@ -29,11 +30,14 @@ impl<M1: Measurement + Drop, M2: Measurement + Drop> Both<M1, M2> {
     /// the metrics differ.
     pub fn new(first: M1, second: M2) -> Result<Both<M1, M2>, JoinFault>
         requires one_ratio { let a = M1.mechanism first in let b = M2.mechanism second in a.ratio ≡ b.ratio }
-        requires few_draws { let a = M1.mechanism first in let b = M2.mechanism second in length a.shape + length b.shape ≤ 2 ^ 40 }
-        requires few_pieces { let a = M1.mechanism first in let b = M2.mechanism second in a.pieces + b.pieces ≤ 2 ^ 31 }
+        requires few_draws { let a = M1.mechanism first in let b = M2.mechanism second in
+            length a.shape + length b.shape ≤ 2 ^ 40 }
+        requires few_pieces { let a = M1.mechanism first in let b = M2.mechanism second in
+            a.pieces + b.pieces ≤ 2 ^ 31 }
         ensures { let a = M1.mechanism first in let b = M2.mechanism second in
             Joins ⟦<Both<M1, M2> as Measurement>⟧.mechanism result
-            record { domain = a.input_domain; metric = a.input_metric } record { domain = b.input_domain; metric = b.input_metric } (both a b) }
+            record { domain = a.input_domain; metric = a.input_metric }
+            record { domain = b.input_domain; metric = b.input_metric } (both a b) }
     {
         if !first.in_domain().agrees(&second.in_domain()) {
             return Err(JoinFault::Kind);
@@ -95,7 +99,8 @@ impl<M1: Measurement, M2: Measurement> Measurement for Both<M1, M2> {
         }
     }
 
-    ghost law = { λ t. both_law (M1.mechanism t.first) (M2.mechanism t.second) (M1.law t.first) (M2.law t.second) t.domains t.metrics t.ratios t.few_draws t.few_pieces };
+    ghost law = { λ t. both_law (M1.mechanism t.first) (M2.mechanism t.second) (M1.law t.first) (M2.law t.second)
+        t.domains t.metrics t.ratios t.few_draws t.few_pieces };
 }
 
 /// The pieces of two answers in order.

@@ -25,7 +25,8 @@ impl<A: Transformation + Drop, B: Transformation + Drop> Chain<A, B> {
     pub fn new(first: A, second: B) -> Result<Chain<A, B>, JoinFault>
         ensures { let a = A.mapping first in let b = B.mapping second in
             Joins ⟦<Chain<A, B> as Transformation>⟧.mapping result
-            record { domain = a.output_domain; metric = a.output_metric } record { domain = b.input_domain; metric = b.input_metric } (chained a b) }
+            record { domain = a.output_domain; metric = a.output_metric }
+            record { domain = b.input_domain; metric = b.input_metric } (chained a b) }
     {
         if !first.out_domain().agrees(&second.in_domain()) {
             return Err(JoinFault::Kind);
@@ -69,5 +70,6 @@ impl<A: Transformation, B: Transformation> Transformation for Chain<A, B> {
         self.second.apply(alloc, &between)
     }
 
-    ghost law = { λ t. chained_law (A.mapping t.first) (B.mapping t.second) (A.law t.first) (B.law t.second) t.domains t.metrics };
+    ghost law = { λ t. chained_law (A.mapping t.first) (B.mapping t.second)
+        (A.law t.first) (B.law t.second) t.domains t.metrics };
 }

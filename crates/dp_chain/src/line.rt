@@ -1,10 +1,11 @@
-ghost use Rattle.std.specs.Prelude.{◌≡◌, ◌≤◌, ◌^◌, map, IfOk, OnOk, OnErr, ◌++◌, ◌∷◌, []};
+ghost use Rattle.std.specs.Prelude.{◌≡◌, ◌≤◌, ◌^◌, IfOk, OnOk, OnErr, ◌++◌, ◌∷◌, []};
 ghost use Rattle.std.specs.Result.{result_ok};
 ghost use Rattle.dp_domain.specs.Domains.{Fits};
 ghost use Rattle.dp_domain.proofs.Limits.{Fits-prop};
 ghost use Rattle.dp_law.specs.Making.{MakesOr};
 ghost use Rattle.dp_chain.specs.Lines.{line_on, line_map, line_value, end_domain, end_metric, AreJoined, Runs};
 ghost use Rattle.dp_chain.specs.LinesProof.{AreJoined-prop};
+ghost use Rattle.dp_chain.specs.Meanings.{stage_mappings};
 
 use crate::any_transformation::AnyTransformation;
 use crate::stage::{Stage, Stages};
@@ -24,10 +25,9 @@ pub struct Line {
     to_metric: Metric,
     ghost fits: { Fits domain } by { Fits-prop domain },
     ghost end_fits: { Fits to_domain } by { Fits-prop to_domain },
-    ghost joined: { AreJoined domain metric (map ⟦<AnyTransformation as Transformation>⟧.mapping stages.items) }
-        by { AreJoined-prop domain metric (map ⟦<AnyTransformation as Transformation>⟧.mapping stages.items) },
-    ghost ends: { end_domain domain (map ⟦<AnyTransformation as Transformation>⟧.mapping stages.items) ≡ to_domain },
-    ghost ends_by: { end_metric metric (map ⟦<AnyTransformation as Transformation>⟧.mapping stages.items) ≡ to_metric },
+    ghost joined: { AreJoined domain metric (stage_mappings stages.items) } by { AreJoined-prop domain metric (stage_mappings stages.items) },
+    ghost ends: { end_domain domain (stage_mappings stages.items) ≡ to_domain },
+    ghost ends_by: { end_metric metric (stage_mappings stages.items) ≡ to_metric },
 }
 
 impl Line {
@@ -82,7 +82,7 @@ impl Transformation for Line {
     ghost use Rattle.dp_chain.specs.LinesProof.{line_law};
     ghost use Rattle.dp_chain.specs.contracts.any_transformation.AnyTransformationTransformation.TheImpl.Laws.{law-law as stage_law};
 
-    ghost mapping = { λ t. composed t.domain t.metric (map ⟦<AnyTransformation as Transformation>⟧.mapping t.stages.items) };
+    ghost mapping = { λ t. composed t.domain t.metric (stage_mappings t.stages.items) };
 
     fn in_domain(&self) -> Domain {
         self.domain
@@ -108,13 +108,14 @@ impl Transformation for Line {
         apply_line(alloc, self.stages.as_slice(), v)
     }
 
-    ghost law = { λ t. line_law ⟦<AnyTransformation as Transformation>⟧.mapping stage_law t.domain t.metric t.stages.items t.fits t.joined };
+    ghost law = { λ t. line_law ⟦<AnyTransformation as Transformation>⟧.mapping stage_law
+        t.domain t.metric t.stages.items t.fits t.joined };
 }
 
 /// How far apart values within `d` can be after the transformations.
 fn map_all(stages: &[AnyTransformation], d: u64) -> Result<u64, Past>
     requires { d ≤ 2 ^ 32 }
-    ensures { result_ok result ≡ line_map (map ⟦<AnyTransformation as Transformation>⟧.mapping stages.now) d }
+    ensures { result_ok result ≡ line_map (stage_mappings stages.now) d }
 {
     let mut at = d;
     for stage in stages {
@@ -127,13 +128,9 @@ fn map_all(stages: &[AnyTransformation], d: u64) -> Result<u64, Past>
 }
 
 /// What the transformations give, one after the other, on a value that stays as it is.
-fn apply_line(
-    alloc: Global,
-    stages: &[AnyTransformation],
-    v: &Value,
-) -> Result<Value, NoMemory>
-    requires { Runs (map ⟦<AnyTransformation as Transformation>⟧.mapping stages.now) v.now }
-    ensures { IfOk result (λ w. w ≡ line_value (map ⟦<AnyTransformation as Transformation>⟧.mapping stages.now) v.now) }
+fn apply_line(alloc: Global, stages: &[AnyTransformation], v: &Value) -> Result<Value, NoMemory>
+    requires { Runs (stage_mappings stages.now) v.now }
+    ensures { IfOk result (λ w. w ≡ line_value (stage_mappings stages.now) v.now) }
 {
     match stages {
         [] => v.copy(alloc),
@@ -143,8 +140,8 @@ fn apply_line(
 
 /// What the transformations give, one after the other.
 fn apply_all(alloc: Global, stages: &[AnyTransformation], v: Value) -> Result<Value, NoMemory>
-    requires { Runs (map ⟦<AnyTransformation as Transformation>⟧.mapping stages.now) v }
-    ensures { IfOk result (λ w. w ≡ line_value (map ⟦<AnyTransformation as Transformation>⟧.mapping stages.now) v) }
+    requires { Runs (stage_mappings stages.now) v }
+    ensures { IfOk result (λ w. w ≡ line_value (stage_mappings stages.now) v) }
 {
     let mut at = v;
     for stage in stages {

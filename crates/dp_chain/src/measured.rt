@@ -26,7 +26,8 @@ impl<T: Transformation + Drop, M: Measurement + Drop> Measured<T, M> {
     pub fn new(first: T, second: M) -> Result<Measured<T, M>, JoinFault>
         ensures { let a = T.mapping first in let b = M.mechanism second in
             Joins ⟦<Measured<T, M> as Measurement>⟧.mechanism result
-            record { domain = a.output_domain; metric = a.output_metric } record { domain = b.input_domain; metric = b.input_metric } (measured a b) }
+            record { domain = a.output_domain; metric = a.output_metric }
+            record { domain = b.input_domain; metric = b.input_metric } (measured a b) }
     {
         if !first.out_domain().agrees(&second.in_domain()) {
             return Err(JoinFault::Kind);
@@ -108,5 +109,6 @@ impl<T: Transformation, M: Measurement> Measurement for Measured<T, M> {
         self.second.release(alloc, &between, draws)
     }
 
-    ghost law = { λ m. measured_law (T.mapping m.first) (M.mechanism m.second) (T.law m.first) (M.law m.second) m.domains m.metrics };
+    ghost law = { λ m. measured_law (T.mapping m.first) (M.mechanism m.second)
+        (T.law m.first) (M.law m.second) m.domains m.metrics };
 }

@@ -1,10 +1,12 @@
-ghost use Rattle.std.specs.Prelude.{Some, ◌≡◌, ◌≤◌, ◌^◌, ◌++◌, ◌∷◌, [], map, length, IfOk, OnOk, OnErr};
+ghost use Rattle.std.specs.Prelude.{Some, ◌≡◌, ◌≤◌, ◌^◌, ◌++◌, ◌∷◌, [], length, IfOk, OnOk, OnErr};
 ghost use Rattle.std.specs.Result.{result_ok};
 ghost use Rattle.dp_domain.specs.Domains.{Fits};
 ghost use Rattle.dp_domain.specs.Metrics.{SuitsMetric};
 ghost use Rattle.dp_domain.proofs.Limits.{Fits-prop};
 ghost use Rattle.dp_law.specs.Making.{MakesOr};
 ghost use Rattle.dp_chain.specs.Releases.{release_on, part_on, joined_shape, joined_answer, all_pieces, total_loss, cost_of, AreAlike, IsLike, HaveInput};
+ghost use Rattle.dp_chain.specs.Meanings.{fraction_of};
+ghost use Rattle.dp_chain.specs.PartMeanings.{part_mechanism, part_mechanisms};
 ghost use Rattle.dp_chain.specs.ReleasesProof.{AreAlike-prop};
 ghost use Rattle.dp_domain.proofs.Limits.{SuitsMetric-prop};
 ghost use Rattle.dp_law.specs.Releasing.{Released, ReleaseCause};
@@ -38,8 +40,7 @@ pub struct Release {
     ghost fits: { Fits domain } by { Fits-prop domain },
     ghost suits: { SuitsMetric domain metric } by { SuitsMetric-prop domain metric },
     ghost few: { length parts.items ≤ 16 },
-    ghost alike: { AreAlike record { p = ratio.p; q = ratio.q } domain metric (map ⟦<Measured<Line, AnyMeasurement> as Measurement>⟧.mechanism parts.items) }
-        by { AreAlike-prop record { p = ratio.p; q = ratio.q } domain metric (map ⟦<Measured<Line, AnyMeasurement> as Measurement>⟧.mechanism parts.items) },
+    ghost alike: { AreAlike (fraction_of ratio) domain metric (part_mechanisms parts.items) } by { AreAlike-prop (fraction_of ratio) domain metric (part_mechanisms parts.items) },
 }
 
 impl Release {
@@ -57,8 +58,10 @@ impl Release {
         requires fits { Fits domain }
         requires some { 1 ≤ length spec.now }
         requires few { length spec.now ≤ 16 }
-        ensures made { MakesOr ⟦<Release as Measurement>⟧.mechanism result (release_on record { p = ratio.p; q = ratio.q } spec.now domain metric) }
-        ensures nothing_at_0 { IfOk result (λ release. let m = ⟦<Release as Measurement>⟧.mechanism release in m.privacy_map 0 ≡ Some 0) }
+        ensures made { MakesOr ⟦<Release as Measurement>⟧.mechanism result
+            (release_on (fraction_of ratio) spec.now domain metric) }
+        ensures nothing_at_0 { IfOk result (λ release.
+            let m = ⟦<Release as Measurement>⟧.mechanism release in m.privacy_map 0 ≡ Some 0) }
     {
         make_release(alloc, domain, metric, ratio, spec.as_slice())
     }
@@ -94,7 +97,7 @@ impl Measurement for Release {
     ghost use Rattle.dp_chain.specs.contracts.line.LineTransformation.TheImpl.Laws.{law-law as line_law};
     ghost use Rattle.dp_chain.specs.contracts.any_measurement.AnyMeasurementMeasurement.TheImpl.Laws.{law-law as noise_law};
 
-    ghost mechanism = { λ r. joined record { p = r.ratio.p; q = r.ratio.q } r.domain r.metric (map ⟦<Measured<Line, AnyMeasurement> as Measurement>⟧.mechanism r.parts.items) };
+    ghost mechanism = { λ r. joined (fraction_of r.ratio) r.domain r.metric (part_mechanisms r.parts.items) };
 
     fn in_domain(&self) -> Domain {
         self.domain
@@ -129,9 +132,9 @@ impl Measurement for Release {
         release_each(alloc, self.parts.as_slice(), v, draws)
     }
 
-    ghost law = { λ r. release_law ⟦<Measured<Line, AnyMeasurement> as Measurement>⟧.mechanism
+    ghost law = { λ r. release_law part_mechanism
         (λ m. measured_law (⟦<Line as Transformation>⟧.mapping m.first) (⟦<AnyMeasurement as Measurement>⟧.mechanism m.second) (line_law m.first) (noise_law m.second) m.domains m.metrics)
-        record { p = r.ratio.p; q = r.ratio.q } r.domain r.metric r.parts.items r.fits r.suits (r.ratio.positive, r.ratio.below_one, r.ratio.small) r.few r.alike };
+        (fraction_of r.ratio) r.domain r.metric r.parts.items r.fits r.suits (r.ratio.positive, r.ratio.below_one, r.ratio.small) r.few r.alike };
 }
 
 /// The release of the parts, made from first to last.
@@ -145,8 +148,10 @@ fn make_release(
     requires fits { Fits domain }
     requires some { 1 ≤ length parts.now }
     requires few { length parts.now ≤ 16 }
-    ensures made { MakesOr ⟦<Release as Measurement>⟧.mechanism result (release_on record { p = ratio.p; q = ratio.q } parts.now domain metric) }
-    ensures nothing_at_0 { IfOk result (λ release. let m = ⟦<Release as Measurement>⟧.mechanism release in m.privacy_map 0 ≡ Some 0) }
+    ensures made { MakesOr ⟦<Release as Measurement>⟧.mechanism result
+        (release_on (fraction_of ratio) parts.now domain metric) }
+    ensures nothing_at_0 { IfOk result (λ release.
+        let m = ⟦<Release as Measurement>⟧.mechanism release in m.privacy_map 0 ≡ Some 0) }
 {
     let mut made = Vec::new(alloc);
     for part in parts {
@@ -173,8 +178,8 @@ fn make_part(
     part: &Part,
 ) -> Result<MeasuredLine, MakeFault>
     requires { Fits domain }
-    ensures made { MakesOr ⟦<Measured<Line, AnyMeasurement> as Measurement>⟧.mechanism result (part_on record { p = ratio.p; q = ratio.q } part.now domain metric) }
-    ensures alike { IfOk result (λ made. IsLike record { p = ratio.p; q = ratio.q } domain metric (⟦<Measured<Line, AnyMeasurement> as Measurement>⟧.mechanism made)) }
+    ensures made { MakesOr part_mechanism result (part_on (fraction_of ratio) part.now domain metric) }
+    ensures alike { IfOk result (λ made. IsLike (fraction_of ratio) domain metric (part_mechanism made)) }
 {
     let line = match Line::make(alloc, domain, metric, &part.stages) {
         Ok(line) => line,
@@ -190,8 +195,8 @@ fn make_part(
 
 /// How many draws the parts take.
 fn all_draws(parts: &[MeasuredLine]) -> u64
-    requires { length (joined_shape (map ⟦<Measured<Line, AnyMeasurement> as Measurement>⟧.mechanism parts.now)) ≤ 2 ^ 40 }
-    ensures { result ≡ length (joined_shape (map ⟦<Measured<Line, AnyMeasurement> as Measurement>⟧.mechanism parts.now)) }
+    requires { length (joined_shape (part_mechanisms parts.now)) ≤ 2 ^ 40 }
+    ensures { result ≡ length (joined_shape (part_mechanisms parts.now)) }
 {
     let Some((first, rest)) = parts.split_first() else {
         return 0;
@@ -201,8 +206,8 @@ fn all_draws(parts: &[MeasuredLine]) -> u64
 
 /// How many pieces the answers of the parts have.
 fn all_pieces(parts: &[MeasuredLine]) -> u64
-    requires { all_pieces (map ⟦<Measured<Line, AnyMeasurement> as Measurement>⟧.mechanism parts.now) ≤ 2 ^ 31 }
-    ensures { result ≡ all_pieces (map ⟦<Measured<Line, AnyMeasurement> as Measurement>⟧.mechanism parts.now) }
+    requires { all_pieces (part_mechanisms parts.now) ≤ 2 ^ 31 }
+    ensures { result ≡ all_pieces (part_mechanisms parts.now) }
 {
     let Some((first, rest)) = parts.split_first() else {
         return 0;
@@ -212,8 +217,8 @@ fn all_pieces(parts: &[MeasuredLine]) -> u64
 
 /// The shapes of the parts in order.
 fn joined_shape(alloc: Global, parts: &[MeasuredLine]) -> Result<Shape, NoMemory>
-    requires { length (joined_shape (map ⟦<Measured<Line, AnyMeasurement> as Measurement>⟧.mechanism parts.now)) ≤ 2 ^ 40 }
-    ensures { IfOk result (λ shape. shape ≡ joined_shape (map ⟦<Measured<Line, AnyMeasurement> as Measurement>⟧.mechanism parts.now)) }
+    requires { length (joined_shape (part_mechanisms parts.now)) ≤ 2 ^ 40 }
+    ensures { IfOk result (λ shape. shape ≡ joined_shape (part_mechanisms parts.now)) }
 {
     let Some((first, rest)) = parts.split_first() else {
         return Ok(Shape::new(alloc));
@@ -226,7 +231,7 @@ fn joined_shape(alloc: Global, parts: &[MeasuredLine]) -> Result<Shape, NoMemory
 /// The sum of the losses of the parts.
 fn total_loss(parts: &[MeasuredLine], d: u64) -> Result<u64, Past>
     requires { d ≤ 2 ^ 32 }
-    ensures { result_ok result ≡ total_loss (map ⟦<Measured<Line, AnyMeasurement> as Measurement>⟧.mechanism parts.now) d }
+    ensures { result_ok result ≡ total_loss (part_mechanisms parts.now) d }
 {
     let Some((first, rest)) = parts.split_first() else {
         return Ok(0);
@@ -248,8 +253,8 @@ fn release_each<D: Draws>(
     v: &Value,
     draws: &mut D,
 ) -> Result<Answer, ReleaseFault>
-    requires { HaveInput v.now (map ⟦<Measured<Line, AnyMeasurement> as Measurement>⟧.mechanism parts.now) }
-    ensures released { let parts = map ⟦<Measured<Line, AnyMeasurement> as Measurement>⟧.mechanism parts.now in
+    requires { HaveInput v.now (part_mechanisms parts.now) }
+    ensures released { let parts = part_mechanisms parts.now in
         Released D.step (joined_shape parts) (joined_answer parts v.now) (D.state draws.old) result (D.state draws.new) }
     ensures cause { ReleaseCause (D.faults draws.old) (D.faults draws.new) result }
 {

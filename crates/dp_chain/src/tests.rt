@@ -34,7 +34,8 @@ fn sum(rt: &impl Abort, from: Domain) -> Sum {
 /// Noise on 0..1 of a number, for the ratio 1/2.
 fn noise(rt: &impl Abort, number: Domain) -> Geometric
     requires { Fits number }
-    ensures { IsLike record { p = 1; q = 2 } number metrics.Absolute (⟦<Geometric as Measurement>⟧.mechanism result) }
+    ensures { IsLike record { p = 1; q = 2 } number metrics.Absolute
+        (⟦<Geometric as Measurement>⟧.mechanism result) }
 {
     let Ok(ratio) = Ratio::new(1, 2) else {
         panic!(rt; "a ratio");
@@ -47,7 +48,8 @@ fn noise(rt: &impl Abort, number: Domain) -> Geometric
 
 /// A count of records of two cells, with noise on 0..1 for the ratio 1/2.
 fn noisy_count(rt: &impl Abort) -> Measured<Count, Geometric>
-    ensures { IsLike record { p = 1; q = 2 } (domain.Rows 2) metrics.Symmetric (⟦<Measured<Count, Geometric> as Measurement>⟧.mechanism result) }
+    ensures { IsLike record { p = 1; q = 2 } (domain.Rows 2) metrics.Symmetric
+        (⟦<Measured<Count, Geometric> as Measurement>⟧.mechanism result) }
 {
     let rows = Domain::Rows { columns: 2 };
     let Ok(count) = Count::new(rows, Metric::Symmetric) else {
@@ -149,7 +151,12 @@ fn a_clamp_and_a_sum_are_chained_where_their_domains_are_the_same(
 #[test]
 fn a_measured_count_takes_the_draws_of_its_noise(rt: HostRuntime) -> Result<(), Fail> {
     let part = noisy_count(&rt);
-    assert_eq!(rt; bounds(&rt, rt.alloc(), &part).expect(&rt, "memory").as_slice(), [3, 2].as_slice());
+    assert_eq!(rt;
+        bounds(&rt, rt.alloc(), &part)
+            .expect(&rt, "memory")
+            .as_slice(),
+        [3, 2].as_slice()
+    );
     assert_eq!(rt; part.loss(1), Ok(1));
     let value = one_record(rt.alloc(), "a", "b")?;
     let answer = released(&rt, rt.alloc(), &part, &value, &[0, 0]).expect(&rt, "released");
@@ -160,7 +167,12 @@ fn a_measured_count_takes_the_draws_of_its_noise(rt: HostRuntime) -> Result<(), 
 #[test]
 fn two_measurements_answer_in_order_and_add_their_losses(rt: HostRuntime) -> Result<(), Fail> {
     let both = Both::new(noisy_count(&rt), noisy_count(&rt)).expect(&rt, "joined");
-    assert_eq!(rt; bounds(&rt, rt.alloc(), &both).expect(&rt, "memory").as_slice(), [3, 2, 3, 2].as_slice());
+    assert_eq!(rt;
+        bounds(&rt, rt.alloc(), &both)
+            .expect(&rt, "memory")
+            .as_slice(),
+        [3, 2, 3, 2].as_slice()
+    );
     assert_eq!(rt; both.loss(1), Ok(2));
     let value = one_record(rt.alloc(), "a", "b")?;
     let answer = released(&rt, rt.alloc(), &both, &value, &[0, 0, 2, 0]).expect(&rt, "released");
@@ -188,11 +200,7 @@ fn line<const N: usize>(
 }
 
 /// Why the line is not made.
-fn refusal<const N: usize>(
-    rt: &impl Abort,
-    alloc: Global,
-    list: [Stage; N],
-) -> Option<MakeFault> {
+fn refusal<const N: usize>(rt: &impl Abort, alloc: Global, list: [Stage; N]) -> Option<MakeFault> {
     line(rt, alloc, list).err()
 }
 
@@ -220,7 +228,7 @@ fn a_line_goes_through_its_stages_in_order(rt: HostRuntime) -> Result<(), Fail> 
             Stage::Sum,
         ],
     )
-        .expect(&rt, "a line");
+    .expect(&rt, "a line");
     assert_eq!(rt; total.map(2), Ok(18));
     assert_eq!(rt; total.map(477_218_589), Err(dp_num::Past));
     let value = one_record(rt.alloc(), "a", "12")?;
@@ -230,11 +238,30 @@ fn a_line_goes_through_its_stages_in_order(rt: HostRuntime) -> Result<(), Fail> 
 
 #[test]
 fn the_first_refused_stage_decides(rt: HostRuntime) {
-    assert_eq!(rt; refusal(&rt, rt.alloc(), [Stage::Cast, Stage::Select { column: 9 }]), Some(MakeFault::Kind));
-    assert_eq!(rt; refusal(&rt, rt.alloc(), [Stage::Select { column: 9 }, Stage::Select { column: 0 }]), Some(MakeFault::Bound));
-    assert_eq!(rt; refusal(&rt, rt.alloc(), [Stage::Count, Stage::Quantise { step: 0 }]), Some(MakeFault::Bound));
-    assert_eq!(rt; refusal(&rt, rt.alloc(), [Stage::Count, Stage::Count]), Some(MakeFault::Kind));
-    assert_eq!(rt; refusal(&rt, rt.alloc(), [Stage::Count, Stage::Quantise { step: 3 }]), None);
+    assert_eq!(rt;
+        refusal(&rt, rt.alloc(), [Stage::Cast, Stage::Select { column: 9 }]),
+        Some(MakeFault::Kind)
+    );
+    assert_eq!(rt;
+        refusal(
+            &rt,
+            rt.alloc(),
+            [Stage::Select { column: 9 }, Stage::Select { column: 0 }]
+        ),
+        Some(MakeFault::Bound)
+    );
+    assert_eq!(rt;
+        refusal(&rt, rt.alloc(), [Stage::Count, Stage::Quantise { step: 0 }]),
+        Some(MakeFault::Bound)
+    );
+    assert_eq!(rt;
+        refusal(&rt, rt.alloc(), [Stage::Count, Stage::Count]),
+        Some(MakeFault::Kind)
+    );
+    assert_eq!(rt;
+        refusal(&rt, rt.alloc(), [Stage::Count, Stage::Quantise { step: 3 }]),
+        None
+    );
 }
 
 /// The release of these parts on records of two cells by the records, for the ratio 1/2.
@@ -287,7 +314,12 @@ fn two_parts_on_empty_data(rt: HostRuntime) -> Result<(), Fail> {
     parts.push(counting(rt.alloc(), 1, 0, 0)?)?;
     parts.push(counting(rt.alloc(), 2, 0, 5)?)?;
     let made = release(&rt, rt.alloc(), parts).expect(&rt, "a release");
-    assert_eq!(rt; bounds(&rt, rt.alloc(), &made).expect(&rt, "memory").as_slice(), [3, 5, 4, 4, 4, 4, 4].as_slice());
+    assert_eq!(rt;
+        bounds(&rt, rt.alloc(), &made)
+            .expect(&rt, "memory")
+            .as_slice(),
+        [3, 5, 4, 4, 4, 4, 4].as_slice()
+    );
     assert_eq!(rt; made.pieces(), 2);
     assert_eq!(rt; (made.cost(0), made.cost(1)), (Ok(0), Ok(3)));
     let value = Value::Rows(Items::new(rt.alloc()));
@@ -327,16 +359,28 @@ fn cost_of(
 #[test]
 fn a_cost_is_at_most_the_greatest_number_of_units(rt: HostRuntime) {
     let alloc = rt.alloc();
-    assert_eq!(rt; cost_of(&rt, alloc, counting(alloc, 2, 0, 0), 2_147_483_648), Ok(4_294_967_296));
-    assert_eq!(rt; cost_of(&rt, alloc, counting(alloc, 3, 0, 0), 2_147_483_648), Err(CostFault::Distance));
+    assert_eq!(rt;
+        cost_of(&rt, alloc, counting(alloc, 2, 0, 0), 2_147_483_648),
+        Ok(4_294_967_296)
+    );
+    assert_eq!(rt;
+        cost_of(&rt, alloc, counting(alloc, 3, 0, 0), 2_147_483_648),
+        Err(CostFault::Distance)
+    );
 }
 
 #[test]
 fn a_release_has_at_most_a_million_draws(rt: HostRuntime) {
     let alloc = rt.alloc();
     assert_eq!(rt; cost_of(&rt, alloc, counting_each(alloc, 15), 1), Ok(1));
-    assert_eq!(rt; cost_of(&rt, alloc, counting_each(alloc, 16), 1), Err(CostFault::Draws));
-    assert_eq!(rt; cost_of(&rt, alloc, counting_each(alloc, 16), 4_294_967_296), Err(CostFault::Draws));
+    assert_eq!(rt;
+        cost_of(&rt, alloc, counting_each(alloc, 16), 1),
+        Err(CostFault::Draws)
+    );
+    assert_eq!(rt;
+        cost_of(&rt, alloc, counting_each(alloc, 16), 4_294_967_296),
+        Err(CostFault::Draws)
+    );
 }
 
 #[test]

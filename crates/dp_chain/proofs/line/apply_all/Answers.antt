@@ -14,7 +14,7 @@ pub loop-stage-preserved : goal.loop-stage-preserved
 loop-stage-preserved c =
     let xs = c.args.stages.now in
     let rest = (runs-next mapping-value.it xs c.loop-stage.stage-index c.stage-item.result c.loop-stage.at
-        c.loop-stage-test.true c.stage-item.is c.loop-stage.invariant.runs).1 in
+    c.loop-stage-test.true c.stage-item.is c.loop-stage.invariant.runs).1 in
     record {
       runs = subst (λ (w : Value). Runs (map mapping-value.it (drop (c.loop-stage.stage-index + 1) xs)) w) (sym c.in_ok-at.ensures.value) rest;
       forward = value-more mapping-value.it xs c.loop-stage.stage-index c.stage-item.result c.args.v c.loop-stage.at c.in_ok-at.at

@@ -27,4 +27,4 @@ returns-in_ok-apply-in-len1-up c =
     IfOk-weaker c.apply_all.result (λ w. w ≡ line_value (map mapping-value.it (take (length xs - 1) (drop 1 xs))) c.in_ok-apply-in-len1-up.field-0)
     (λ w. w ≡ line_value (map mapping-value.it xs) c.args.v.now)
     (λ w same. same ∙ first-value mapping-value.it xs c.first-item.result c.args.v.now c.in_ok-apply-in-len1-up.field-0
-        c.in-len1-up.len_at_least c.first-item.is c.in_ok-apply-in-len1-up.ensures.value) c.apply_all.ensures
+    c.in-len1-up.len_at_least c.first-item.is c.in_ok-apply-in-len1-up.ensures.value) c.apply_all.ensures

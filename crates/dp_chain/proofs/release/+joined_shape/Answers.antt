@@ -1,5 +1,5 @@
 use Rattle.std.proofs.Common.{◌≡◌, length, sym, ap, arith, ◌∙◌, ◌++◌, List, ℕ}
-use Rattle.dp_chain.proofs.MeasuredLines.{part_mechanism}
+use Rattle.dp_chain.specs.PartMeanings.{part_mechanism}
 use Rattle.dp_chain.proofs.ReleaseSteps.{shape-none, shape-first, draws-first}
 use Rattle.dp_chain.proofs.release.+joined_shape.Goals as goal
 

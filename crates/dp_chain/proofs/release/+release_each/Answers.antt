@@ -1,5 +1,5 @@
 use Rattle.std.proofs.Common.{◌≡◌, length, sym, ap, arith, ◌∙◌}
-use Rattle.dp_chain.proofs.MeasuredLines.{part_mechanism}
+use Rattle.dp_chain.specs.PartMeanings.{part_mechanism}
 use Rattle.dp_chain.proofs.ReleaseSteps.{released-none, input-first, first-stops, rest-stops, no-room, all-answer}
 use Rattle.dp_chain.proofs.release.+release_each.Goals as goal
 
@@ -14,8 +14,13 @@ release-requires g t c =
 pub release_each-requires : goal.release_each-requires
 release_each-requires g t c =
     let shorter = c.in-Some.ensures.cases.1 in
-    λ κs within. (omega arith, (within,
-        (input-first part_mechanism c.args.parts.now c.in-Some.first.now c.in-Some.rest.now c.args.v.now c.in-Some.ensures.cases.0 c.requires).1))
+    λ κs within. (
+      omega arith,
+      (
+        within,
+        (input-first part_mechanism c.args.parts.now c.in-Some.first.now c.in-Some.rest.now c.args.v.now c.in-Some.ensures.cases.0 c.requires).1,
+      ),
+    )
 
 pub returns-in-Err-clause-released : goal.returns-in-Err-clause-released
 returns-in-Err-clause-released g t c =

@@ -1,5 +1,5 @@
 use Rattle.std.proofs.Common.{◌≡◌, sym, ◌∙◌, map}
-use Rattle.dp_chain.proofs.MeasuredLines.{part_mechanism}
+use Rattle.dp_chain.specs.PartMeanings.{part_mechanism}
 use Rattle.dp_chain.proofs.ReleaseSteps.{loss-none, loss-past, rest-past, losses-add, total-le}
 use Rattle.dp_chain.proofs.release.+total_loss.Goals as goal
 

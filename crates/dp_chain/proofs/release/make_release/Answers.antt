@@ -6,7 +6,8 @@ use Rattle.dp_law.specs.Mechanism.{Mechanism}
 use Rattle.dp_count.specs.Results.{on_ok}
 use Rattle.dp_chain.specs.Releases.{joined, AreAlike}
 use Rattle.dp_chain.specs.contracts.release.ReleaseMeasurement.TheImpl.{ghosts as release_ghosts}
-use Rattle.dp_chain.proofs.MeasuredLines.{MeasuredLine, part_mechanism, part_law}
+use Rattle.dp_chain.specs.PartMeanings.{MeasuredLine, part_mechanism}
+use Rattle.dp_chain.proofs.MeasuredLines.{part_law}
 use Rattle.dp_chain.proofs.ReleaseMaking.{parts-start, parts-next, parts-end, parts-zero, release-fault, alike-nil, alike-more, made-suits}
 use Rattle.dp_chain.proofs.release.make_release.Goals as goal
 

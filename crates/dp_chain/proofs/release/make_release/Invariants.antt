@@ -1,7 +1,7 @@
 use Rattle.std.proofs.Common.{◌≡◌, ◌++◌, map, drop, length}
 use Rattle.dp_count.specs.Results.{on_ok}
 use Rattle.dp_chain.specs.Releases.{parts_on, AreAlike}
-use Rattle.dp_chain.proofs.MeasuredLines.{part_mechanism}
+use Rattle.dp_chain.specs.PartMeanings.{part_mechanism}
 use Rattle.dp_chain.proofs.release.make_release.Given as goal
 
 abbrev pub invariant-loop-part : goal.invariant-loop-part

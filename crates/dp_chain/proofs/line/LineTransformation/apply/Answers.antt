@@ -22,5 +22,5 @@ returns-clause-within c =
     let m = composed line.domain line.metric (map mapping-value.it line.stages.items) in
     IfOk-weaker c.apply_line.result (λ w. w ≡ line_value (map mapping-value.it c.as_slice.result.now) c.args.v.now) (λ w. Has m.output_domain w)
     (λ w same. lands_at m (line_law mapping-value.it law-law line.domain line.metric line.stages.items line.fits line.joined) c.args.v.now w
-        (same ∙ ap (λ (xs : List AnyTransformation). line_value (map mapping-value.it xs) c.args.v.now) c.as_slice.ensures.value) c.requires)
+    (same ∙ ap (λ (xs : List AnyTransformation). line_value (map mapping-value.it xs) c.args.v.now) c.as_slice.ensures.value) c.requires)
     c.apply_line.ensures

@@ -1,7 +1,7 @@
 use Rattle.std.proofs.Common.{List, map, length, ◌≤◌, ◌^◌, sym, subst}
 use Rattle.dp_chain.specs.Releases.{joined_shape}
 use Rattle.dp_chain.specs.contracts.release.ReleaseMeasurement.TheImpl.Laws.{law-law}
-use Rattle.dp_chain.proofs.MeasuredLines.{MeasuredLine, part_mechanism}
+use Rattle.dp_chain.specs.PartMeanings.{MeasuredLine, part_mechanism}
 use Rattle.dp_chain.proofs.release.ReleaseMeasurement.draws.Goals as goal
 
 pub all_draws-requires : goal.all_draws-requires

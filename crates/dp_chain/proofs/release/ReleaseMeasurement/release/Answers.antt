@@ -1,6 +1,6 @@
 use Rattle.std.proofs.Common.{List, map, sym, subst}
 use Rattle.dp_chain.specs.Releases.{HaveInput}
-use Rattle.dp_chain.proofs.MeasuredLines.{MeasuredLine, part_mechanism}
+use Rattle.dp_chain.specs.PartMeanings.{MeasuredLine, part_mechanism}
 use Rattle.dp_chain.proofs.ReleaseSteps.{alike-input}
 use Rattle.dp_chain.proofs.release.ReleaseMeasurement.release.Goals as goal
 
