@@ -10,8 +10,8 @@ use dp_law::{Answer, Measurement, ReleaseFault};
 use dp_num::{Past, add_units};
 use std::alloc::Global;
 
-/// Two measurements on one input, as one: the answer is the first's and then the second's, each on draws of its own, and
-/// the losses are added.
+/// Two measurements on one input, as one: the answer is the first's and then the second's, each on draws of its own,
+/// and the losses are added.
 #[derive(Drop)]
 pub struct Both<M1: Measurement, M2: Measurement> {
     first: M1,

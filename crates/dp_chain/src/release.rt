@@ -133,8 +133,10 @@ impl Measurement for Release {
     }
 
     ghost law = { λ r. release_law part_mechanism
-        (λ m. measured_law (⟦<Line as Transformation>⟧.mapping m.first) (⟦<AnyMeasurement as Measurement>⟧.mechanism m.second) (line_law m.first) (noise_law m.second) m.domains m.metrics)
-        (fraction_of r.ratio) r.domain r.metric r.parts.items r.fits r.suits (r.ratio.positive, r.ratio.below_one, r.ratio.small) r.few r.alike };
+        (λ m. measured_law (⟦<Line as Transformation>⟧.mapping m.first) (⟦<AnyMeasurement as Measurement>⟧.mechanism m.second)
+        (line_law m.first) (noise_law m.second) m.domains m.metrics)
+        (fraction_of r.ratio) r.domain r.metric r.parts.items r.fits r.suits
+        (r.ratio.positive, r.ratio.below_one, r.ratio.small) r.few r.alike };
 }
 
 /// The release of the parts, made from first to last.
@@ -255,7 +257,8 @@ fn release_each<D: Draws>(
 ) -> Result<Answer, ReleaseFault>
     requires { HaveInput v.now (part_mechanisms parts.now) }
     ensures released { let parts = part_mechanisms parts.now in
-        Released D.step (joined_shape parts) (joined_answer parts v.now) (D.state draws.old) result (D.state draws.new) }
+        Released D.step (joined_shape parts) (joined_answer parts v.now)
+        (D.state draws.old) result (D.state draws.new) }
     ensures cause { ReleaseCause (D.faults draws.old) (D.faults draws.new) result }
 {
     let Some((first, rest)) = parts.split_first() else {
