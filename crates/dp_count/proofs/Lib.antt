@@ -1,8 +1,10 @@
+pub mod AllDrawLists
 pub mod Counting
 pub mod DrawLists
 pub mod LeadingRun
 pub mod Places
 pub mod Ratios
+pub mod ReplySets
 pub mod Runs
 pub mod Slots
 pub mod Spelling

@@ -1,7 +1,9 @@
+pub mod AllDrawLists
 pub mod Bounds
 pub mod CountingLaws
 pub mod Digits
 pub mod DrawLists
+pub mod DrawListsLaw
 pub mod Faults
 pub mod Ratios
 pub mod Results

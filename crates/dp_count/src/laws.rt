@@ -1,5 +1,6 @@
 //! The laws of the number of draw lists that meet a test. Each is the contract of a function that does nothing.
 ghost use Rattle.dp_count.specs.CountingLaws.{ProductLaw, CutLaw, BlockLaw, RunLaw, WholeRunLaw, LongRunLaw, IntervalLaw, EitherLaw, WholeLaw, PartitionLaw};
+ghost use Rattle.dp_count.specs.DrawListsLaw.{MembersLaw, OnceLaw, ListLaw, SetLaw, SetRatioLaw};
 ghost use Rattle.dp_count.specs.Slots.{SlotsLaw, SlotsRatioLaw};
 ghost use Rattle.dp_count.specs.Ratios.{RatioProductLaw, RatioGrowthLaw, RatioListLaw, RatioSumLaw};
 
@@ -52,6 +53,21 @@ pub fn ratio_law()
     ensures sum { RatioSumLaw }
 {}
 
+/// The list of all draw lists of a shape has each of them once and nothing else, and the number of those that meet a
+/// test is the length of its filter by the test.
+pub fn list_law()
+    ensures members { MembersLaw }
+    ensures once { OnceLaw }
+    ensures counted { ListLaw }
+{}
+
+/// Of a set of replies: its number is the sum of the numbers of its replies, and a ratio that is kept at every reply is
+/// kept at every set of replies.
+pub fn set_law<R>()
+    ensures sum { SetLaw R }
+    ensures ratio { SetRatioLaw R }
+{}
+
 #[cfg(test)]
 mod tests {
     use super::*;
@@ -68,6 +84,11 @@ mod tests {
         ensures slots { SlotsLaw R }
         ensures slots_ratio { SlotsRatioLaw R }
         ensures ratio { RatioListLaw }
+        ensures members { MembersLaw }
+        ensures once { OnceLaw }
+        ensures counted { ListLaw }
+        ensures set { SetLaw R }
+        ensures set_ratio { SetRatioLaw R }
     {
         product_law();
         block_law();
@@ -77,6 +98,8 @@ mod tests {
         partition_law::<R>();
         slots_law::<R>();
         ratio_law();
+        list_law();
+        set_law::<R>();
     }
 
     #[test]
