@@ -1,5 +1,5 @@
-ghost use Rattle.std.specs.Prelude.{◌≡◌, IsTrue};
-ghost use Rattle.dp_domain.specs.Domains.{Fits};
+ghost use Rattle.std.specs.Prelude.{◌≡◌, IsTrue, IfOk, IsOk};
+ghost use Rattle.dp_domain.specs.Domains.{Fits, Has};
 ghost use Rattle.dp_domain.proofs.Limits.{Fits-prop};
 ghost use Rattle.dp_law.specs.Making.{Makes};
 ghost use Rattle.dp_aggregate.specs.Count.{has_lists, has_unsized_lists, count_from};
@@ -68,7 +68,12 @@ impl Transformation for Count {
         Ok(d)
     }
 
-    fn apply(&self, _: Global, v: &Value) -> Result<Value, NoMemory> {
+    fn apply(&self, _: Global, v: &Value) -> Result<Value, NoMemory>
+        requires { let m = ⟦<Count as Transformation>⟧.mapping self.now in Has m.input_domain v.now }
+        ensures value { let m = ⟦<Count as Transformation>⟧.mapping self.now in IfOk result (λ w. w ≡ m.function v.now) }
+        ensures within { let m = ⟦<Count as Transformation>⟧.mapping self.now in IfOk result (λ w. Has m.output_domain w) }
+        ensures given { IsOk result }
+    {
         let length = match v {
             Value::Rows(rows) => rows.len(),
             Value::Texts(texts) => texts.len(),

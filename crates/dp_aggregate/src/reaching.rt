@@ -1,5 +1,5 @@
-ghost use Rattle.std.specs.Prelude.{◌^◌, IsTrue};
-ghost use Rattle.dp_domain.specs.Domains.{Fits};
+ghost use Rattle.std.specs.Prelude.{◌≡◌, ◌^◌, IsTrue, IfOk, IsOk};
+ghost use Rattle.dp_domain.specs.Domains.{Fits, Has};
 ghost use Rattle.dp_domain.proofs.Limits.{Fits-prop};
 ghost use Rattle.dp_law.specs.Making.{Makes};
 ghost use Rattle.dp_domain.specs.declared.domains.Domain.TheVariants as domain;
@@ -81,7 +81,12 @@ impl Transformation for AtLeast {
         Ok(d.min(1))
     }
 
-    fn apply(&self, _: Global, v: &Value) -> Result<Value, NoMemory> {
+    fn apply(&self, _: Global, v: &Value) -> Result<Value, NoMemory>
+        requires { let m = ⟦<AtLeast as Transformation>⟧.mapping self.now in Has m.input_domain v.now }
+        ensures value { let m = ⟦<AtLeast as Transformation>⟧.mapping self.now in IfOk result (λ w. w ≡ m.function v.now) }
+        ensures within { let m = ⟦<AtLeast as Transformation>⟧.mapping self.now in IfOk result (λ w. Has m.output_domain w) }
+        ensures given { IsOk result }
+    {
         let Value::Int(number) = v else {
             unreachable!()
         };

@@ -1,5 +1,5 @@
-ghost use Rattle.std.specs.Prelude.{◌≡◌, ◌≤◌, ◌^◌, ◌*ℤ◌, All, length, pos};
-ghost use Rattle.dp_domain.specs.Domains.{Fits};
+ghost use Rattle.std.specs.Prelude.{◌≡◌, ◌≤◌, ◌^◌, ◌*ℤ◌, All, length, pos, IfOk, IsOk};
+ghost use Rattle.dp_domain.specs.Domains.{Fits, Has};
 ghost use Rattle.dp_domain.specs.Sums.{int_sum};
 ghost use Rattle.dp_domain.proofs.Limits.{Fits-prop};
 ghost use Rattle.dp_law.specs.Making.{Makes};
@@ -106,7 +106,12 @@ impl Transformation for Sum {
         mul_units(d, self.factor())
     }
 
-    fn apply(&self, _: Global, v: &Value) -> Result<Value, NoMemory> {
+    fn apply(&self, _: Global, v: &Value) -> Result<Value, NoMemory>
+        requires { let m = ⟦<Sum as Transformation>⟧.mapping self.now in Has m.input_domain v.now }
+        ensures value { let m = ⟦<Sum as Transformation>⟧.mapping self.now in IfOk result (λ w. w ≡ m.function v.now) }
+        ensures within { let m = ⟦<Sum as Transformation>⟧.mapping self.now in IfOk result (λ w. Has m.output_domain w) }
+        ensures given { IsOk result }
+    {
         let Value::Ints(numbers) = v else {
             unreachable!()
         };
