@@ -1,3 +1,4 @@
 pub mod EdgeTests
 pub mod Examples
 pub mod Frequency
+pub mod LeastNumbers

@@ -11,6 +11,7 @@ pub mod Quantise
 pub mod QuantiseLaw
 pub mod Resize
 pub mod ResizeLaw
+pub mod ResizeProof
 pub mod RisingOrder
 pub mod Sum
 pub mod SumLaw

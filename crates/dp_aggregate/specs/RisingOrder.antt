@@ -10,11 +10,7 @@ use Rattle.dp_domain.specs.Distance.{occurrences}
 use Rattle.dp_domain.proofs.Equality.{int_eq-decides}
 use Rattle.dp_domain.proofs.Occurrences.{one, occurrences-cons, occurrences-permutation}
 use Rattle.dp_aggregate.specs.Resize.{put_in, in_order}
-
--- each number is at most every later one
-abbrev pub Rises : List ℤ → Type 0
-Rises [] = Unit {0}
-Rises (x ∷ xs) = All (λ y. x ≤ℤ y) xs × Rises xs
+use Rattle.dp_aggregate.specs.ResizeLaw.{Rises}
 
 -- the place at which a number is put
 pub record PutAt (z : ℤ) (xs : List ℤ) : Type 0 where
@@ -71,7 +67,7 @@ put-rises : (z : ℤ) (xs : List ℤ) → Rises xs → Rises (put_in z xs)
 put-rises z [] rises = (All-nil (λ y. z ≤ℤ y), tt)
 put-rises z (x ∷ xs) rises = put-rises-step z x xs (int_le z x) refl rises (put-rises z xs rises.1)
 
-in_order-rises : (xs : List ℤ) → Rises (in_order xs)
+pub in_order-rises : (xs : List ℤ) → Rises (in_order xs)
 unfolding in_order
 in_order-rises [] = tt
 in_order-rises (x ∷ xs) = put-rises x (in_order xs) (in_order-rises xs)

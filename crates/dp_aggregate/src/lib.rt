@@ -4,6 +4,7 @@
 
 mod counting;
 mod frequencies;
+pub mod laws;
 mod one_number;
 mod quantising;
 mod reaching;

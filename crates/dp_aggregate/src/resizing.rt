@@ -59,7 +59,7 @@ impl Resize {
 
 impl Transformation for Resize {
     ghost use Rattle.dp_aggregate.specs.Resize.{resize_mapping};
-    ghost use Rattle.dp_aggregate.specs.ResizeLaw.{resize_law};
+    ghost use Rattle.dp_aggregate.specs.ResizeProof.{resize_law};
 
     ghost mapping = { λ t. resize_mapping t.lo t.hi t.size t.fill };
 

@@ -117,7 +117,7 @@ fn histograms_count_each_category(rt: HostRuntime) -> Result<(), Fail> {
 }
 
 #[test]
-fn histograms_of_sized_lists_map_to_twice_the_distance(rt: HostRuntime) -> Result<(), Fail> {
+fn histograms_of_sized_lists_count_and_map_to_twice_the_distance(rt: HostRuntime) -> Result<(), Fail> {
     let sized = histogram(
         Domain::Cats {
             n: 3,
@@ -125,6 +125,8 @@ fn histograms_of_sized_lists_map_to_twice_the_distance(rt: HostRuntime) -> Resul
         },
         Metric::ChangeOne,
     )?;
+    let list = categories(rt.alloc(), &[2, 0, 2, 2])?;
+    assert!(rt; gives(rt.alloc(), &sized, &list, &[1, 0, 3]));
     for (d, wanted) in [
         (2, Some(4)),
         (2_147_483_648, Some(4_294_967_296)),
