@@ -2,3 +2,4 @@ mod LeadingRun
 mod Settling
 mod Stepping
 mod VectorSteps
+pub mod Ways

@@ -35,7 +35,7 @@ use Rattle.dp_geometric.specs.CellProof.{cell-private}
 use Rattle.dp_geometric.specs.Geometric.{cells_shape, cell_slot, cells_out, add_noise, is_numeric, numeric_metric, noise_shape, geometric}
 
 -- how many draw lists of one cell give an answer of one number
-number_ways : ℤ → ℤ → ℕ → ℕ → ℤ → List Piece → ℕ
+unfoldable pub number_ways : ℤ → ℤ → ℕ → ℕ → ℤ → List Piece → ℕ
 number_ways lo hi low high z (piece.Int a ∷ []) = cell.ways lo hi low high z a
 number_ways lo hi low high z _ = 0
 
@@ -54,6 +54,10 @@ number-near lo hi x y low high d (piece.Cat a ∷ rest) h k near = ratio-none lo
 number-near lo hi x y low high d (piece.IntVec zs ∷ rest) h k near = ratio-none low high d 0
 number-near lo hi x y low high d (piece.Int a ∷ []) h k near = cell-private lo hi low high h k x y a d near
 number-near lo hi x y low high d (piece.Int a ∷ (other ∷ rest)) h k near = ratio-none low high d 0
+
+pub number-is : (least most lo hi : ℤ) (p q u low high : ℕ) (z : ℤ) (answer : List Piece) → ways (geometric (domain.Int least most) p q u lo hi low high) (value.Int z) answer ≡ number_ways lo hi low high z answer
+unfolding ways
+number-is least most lo hi p q u low high z answer = ways-number lo hi z low high answer
 
 -- the cells of a vector as slots, one after the other
 cells-joined : (lo hi : ℤ) (low high : ℕ) (zs : List ℤ) → cells_shape (length zs) lo hi low high ≡ joined_shape (map (cell_slot lo hi low high) zs)
@@ -83,7 +87,7 @@ slots-near lo hi low high (x ∷ xs) (y ∷ ys) h k same =
     (λ reply. cell-private lo hi low high h k x y reply (nat_abs (x -ℤ y)) (omega arith), slots-near lo hi low high xs ys h k (omega arith))
 
 -- how many draw lists of so many cells give an answer of one vector
-vector_ways : ℤ → ℤ → ℕ → ℕ → List ℤ → List Piece → ℕ
+unfoldable pub vector_ways : ℤ → ℤ → ℕ → ℕ → List ℤ → List Piece → ℕ
 vector_ways lo hi low high zs (piece.IntVec wanted ∷ []) = count (joined_shape (map (cell_slot lo hi low high) zs)) (λ draws. pointwise int_eq (replies (map (cell_slot lo hi low high) zs) draws) wanted)
 vector_ways lo hi low high zs _ = 0
 
@@ -121,7 +125,7 @@ unfolding ways
 private-number least most lo hi x y p q u low high d answer h k lows highs near =
     units p q u low high d _ _ lows highs (rw (ways-number lo hi x low high answer, ways-number lo hi y low high answer) (number-near lo hi x y low high d answer h k near))
 
-vector-is : (least most lo hi : ℤ) (p q u low high len : ℕ) (zs : List ℤ) (answer : List Piece) → length zs ≡ len → ways (geometric (domain.IntVec len least most) p q u lo hi low high) (value.IntVec zs) answer ≡ vector_ways lo hi low high zs answer
+pub vector-is : (least most lo hi : ℤ) (p q u low high len : ℕ) (zs : List ℤ) (answer : List Piece) → length zs ≡ len → ways (geometric (domain.IntVec len least most) p q u lo hi low high) (value.IntVec zs) answer ≡ vector_ways lo hi low high zs answer
 unfolding ways vector_test
 vector-is least most lo hi p q u low high len zs answer same =
     ap (λ n. count (cells_shape n lo hi low high) (λ draws. same_answer (add_noise lo hi low high (value.IntVec zs) draws) answer)) (sym same) ∙ ways-vector lo hi low high zs answer

@@ -10,8 +10,10 @@ use crate::runs::leading_run;
 use dp_count::Failed;
 use dp_draws::Draws;
 
-/// One cell of truncated geometric noise: its answers are the whole numbers from `lo` to `hi`, and with each step of
-/// distance from the value an answer is rarer by the factor `low` / `high`.
+/// One cell of truncated geometric noise: its answers are the whole numbers from `lo` to `hi`. A value outside them
+/// counts as the nearest of them. Between `lo` and `hi` an answer is rarer by the factor `low` / `high` with each step
+/// of distance from the value. The two ends also take what falls beyond them: an end has `high` draw lists for each
+/// `high` - `low` that an answer between them would have at the same distance.
 #[derive(Clone, Copy, Debug, PartialEq, Eq)]
 pub struct Cell {
     /// The least answer.

@@ -4,6 +4,7 @@
 #![tactic(auto)]
 
 mod cells;
+pub mod laws;
 mod measuring;
 mod runs;
 #[cfg(test)]
