@@ -31,7 +31,7 @@ pub trait Transformation {
         ensures { let m = mapping self.now in result ≡ m.output_metric };
 
     /// How far apart the results can be of values within `d`, from 0 to 2^32. `Past` comes exactly where the stability
-    /// map has no number, which is where that distance is greater than 2^32.
+    /// map has no number.
     fn map(&self, d: u64) -> Result<u64, Past>
         requires { d ≤ 2 ^ 32 }
         ensures { let m = mapping self.now in result_ok result ≡ m.stability_map d };
