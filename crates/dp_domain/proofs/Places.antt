@@ -1,6 +1,6 @@
 -- The places of a list: how many of them pass a test, and the first few of those that do.
 use Rattle.std.proofs.Common.{◌≡◌, ℕ, zero, suc, ◌+◌, ◌-◌, ◌≤◌, ◌<◌, min, Bool, true, false, cond, ◌&&◌, List, [], ◌∷◌, ◌++◌, map, length, get_or, take, drop, refl, sym, ◌∙◌, ap, subst, ◌||◌, inl, inr, add-one, arith}
-use Rattle.std.specs.Prelude.{sum_by, count_by, filter, nat_lt, nat_eq, not, All}
+use Rattle.std.specs.Prelude.{count_by, filter, nat_lt, nat_eq, not, All}
 use Rattle.std.specs.List.{range_with_len}
 use Rattle.std.specs.List.Sorted.{IsPermutation, IsNonDecreasing}
 use Rattle.std.proofs.lemmas.Bool.{cases_Bool}
@@ -9,7 +9,7 @@ use Rattle.std.proofs.lemmas.List.FromFn.{fill_by_all}
 use Rattle.std.proofs.lemmas.List.Elements.{All-nil, All-cons, All-head, All-tail, All-weaker, All-filter}
 use Rattle.std.proofs.lemmas.List.Sorted.{IsPermutation-refl, IsPermutation-cons, IsPermutation-trans, IsPermutation-middle, All-permutation}
 use Rattle.std.proofs.lemmas.List.{length-drop, get_or-drop, get_or-take, get_or_default, length-take}
-use Rattle.std.proofs.lemmas.List.Sums.{count_by-le-length, sum_by-take-drop, sum_by-cons, sum_by-append, sum_by_push}
+use Rattle.std.proofs.lemmas.List.Sums.{count_by-le-length, sum_by-take-drop, sum_by-cons, sum_by-append}
 use Rattle.dp_domain.specs.Distance.{occurrences}
 use Rattle.dp_domain.proofs.Equality.{nat_eq-decides}
 use Rattle.dp_domain.proofs.Groups.{occurrences-filter}
