@@ -394,3 +394,142 @@ fn a_filter_of_persons_gives_persons_and_a_selection_takes_records(rt: HostRunti
     };
     assert!(rt; matches!(Chain::new(filter, select), Err(JoinFault::Metric)));
 }
+
+/// Whether the stage is made on the domain and the metric.
+fn is_made(rt: &impl Abort, alloc: Global, domain: Domain, metric: Metric, stage: &Stage) -> bool {
+    assert!(rt; domain.fits());
+    AnyTransformation::make(alloc, domain, metric, stage).is_ok()
+}
+
+/// Whether the noise is made on the domain and the metric, for the ratio 1/2.
+fn is_measured(
+    rt: &impl Abort,
+    alloc: Global,
+    domain: Domain,
+    metric: Metric,
+    noise: &Noise,
+) -> bool {
+    let Ok(ratio) = Ratio::new(1, 2) else {
+        panic!(rt; "a ratio");
+    };
+    assert!(rt; domain.fits());
+    AnyMeasurement::make(alloc, domain, metric, ratio, noise).is_ok()
+}
+
+/// These edges.
+fn edges(alloc: Global, list: &[i64]) -> Result<Items<i64>, NoMemory> {
+    Ok(Items::from_vec(Vec::from_slice(alloc, list)?))
+}
+
+#[test]
+fn stages_of_records_and_lists_are_made(rt: HostRuntime) -> Result<(), Fail> {
+    let alloc = rt.alloc();
+    let rows = Domain::Rows { columns: 2 };
+    let optional = Domain::OptInts { lo: 0, hi: 9 };
+    let filter = Stage::Filter {
+        column: 1,
+        text: Items::from_vec(Vec::from_slice(alloc, b"x".as_slice())?),
+    };
+    assert!(rt; is_made(&rt, alloc, rows, Metric::Users(1), &filter));
+    assert!(rt; !is_made(&rt, alloc, rows, Metric::Users(2), &filter));
+    assert!(rt;
+        is_made(
+            &rt,
+            alloc,
+            rows,
+            Metric::Users(0),
+            &Stage::Truncate { most: 2 }
+        )
+    );
+    assert!(rt;
+        !is_made(
+            &rt,
+            alloc,
+            rows,
+            Metric::Symmetric,
+            &Stage::Truncate { most: 2 }
+        )
+    );
+    assert!(rt;
+        is_made(
+            &rt,
+            alloc,
+            optional,
+            Metric::Symmetric,
+            &Stage::Impute { value: 3 }
+        )
+    );
+    assert!(rt;
+        !is_made(
+            &rt,
+            alloc,
+            optional,
+            Metric::Symmetric,
+            &Stage::Impute { value: 10 }
+        )
+    );
+    Ok(())
+}
+
+#[test]
+fn stages_of_numbers_are_made(rt: HostRuntime) -> Result<(), Fail> {
+    let alloc = rt.alloc();
+    let number = Domain::Int { lo: 0, hi: 9 };
+    let bins = Stage::Bins {
+        edges: edges(alloc, &[1, 5])?,
+    };
+    let at_least = Stage::AtLeast {
+        edges: edges(alloc, &[2])?,
+    };
+    let resize = Stage::Resize { size: 3, fill: 0 };
+    assert!(rt; is_made(&rt, alloc, ints(0, 9), Metric::Symmetric, &bins));
+    assert!(rt; is_made(&rt, alloc, ints(0, 9), Metric::Symmetric, &resize));
+    assert!(rt; is_made(&rt, alloc, number, Metric::Absolute, &at_least));
+    assert!(rt;
+        is_made(
+            &rt,
+            alloc,
+            number,
+            Metric::Absolute,
+            &Stage::Quantise { step: 4 }
+        )
+    );
+    assert!(rt; !is_made(&rt, alloc, number, Metric::L1, &at_least));
+    Ok(())
+}
+
+#[test]
+fn noises_of_categories_and_vectors_are_made(rt: HostRuntime) {
+    let alloc = rt.alloc();
+    let choice = Noise::Choice {
+        u: 1,
+        floor: 0,
+        top: 1,
+    };
+    let vector = Domain::IntVec {
+        len: 2,
+        lo: 0,
+        hi: 1,
+    };
+    let response = Noise::Response { u: 1 };
+    assert!(rt;
+        is_measured(
+            &rt,
+            alloc,
+            Domain::Cat { n: 3 },
+            Metric::Discrete,
+            &response
+        )
+    );
+    assert!(rt;
+        !is_measured(
+            &rt,
+            alloc,
+            Domain::Cat { n: 3 },
+            Metric::Absolute,
+            &response
+        )
+    );
+    assert!(rt; is_measured(&rt, alloc, vector, Metric::L1, &choice));
+    assert!(rt; !is_measured(&rt, alloc, vector, Metric::L1, &response));
+}
