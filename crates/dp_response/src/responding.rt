@@ -176,37 +176,34 @@ fn other_value(truth: u32, place: u32) -> u32
 mod tests {
     use super::*;
     use dp_draws::{NoDraws, Replay};
-    use std::alloc::AllocError;
+    use std::process::Abort;
 
     /// Randomised response on categories below `n`, for the ratio p/q.
-    fn on_categories(n: u32, p: u64, q: u64, u: u64) -> Result<Response, Refused>
+    fn on_categories(rt: &impl Abort, n: u32, p: u64, q: u64, u: u64) -> Result<Response, Refused>
         requires { Fits (domain.Cat n) }
     {
-        let Ok(ratio) = Ratio::new(p, q) else {
-            return Err(Refused::Bound);
-        };
+        let ratio = Ratio::new(p, q).expect(rt, "a ratio");
         Response::new(Domain::Cat { n }, Metric::Discrete, ratio, u)
     }
 
-    /// What a measurement releases on a value from the given draws; `None` where its domain does not have the value.
+    /// What a measurement releases on a value of its domain, from these draws.
     fn released<M: Measurement, const N: usize>(
+        rt: &impl Abort,
         alloc: Global,
         m: &M,
         v: &Value,
         draws: [u64; N],
-    ) -> Result<Option<Answer>, ReleaseFault>
+    ) -> Result<Answer, ReleaseFault>
         requires { let m = M.mechanism m.now in Fits m.input_domain }
     {
-        if !m.in_domain().has(v) {
-            return Ok(None);
-        }
-        let mut source = Replay::new(Vec::from_array(alloc, draws).map_err(|_| AllocError)?);
-        Ok(Some(m.release(alloc, v, &mut source)?))
+        assert!(rt; m.in_domain().has(v));
+        let mut source = Replay::new(Vec::from_array(alloc, draws).expect(rt, "memory"));
+        m.release(alloc, v, &mut source)
     }
 
     #[test]
     fn response_draws(rt: HostRuntime) {
-        let made = on_categories(3, 1, 2, 1).expect(&rt, "made");
+        let made = on_categories(&rt, 3, 1, 2, 1).expect(&rt, "made");
         assert!(rt; made.n == 3);
         for (draw, given) in [(0, 1), (1, 1), (2, 0), (3, 2)] {
             let mut source = Replay::new(Vec::from_array(rt.alloc(), [draw]).expect(&rt, "memory"));
@@ -216,28 +213,28 @@ mod tests {
 
     #[test]
     fn a_reply_is_released_as_one_piece(rt: HostRuntime) {
-        let made = on_categories(3, 1, 2, 1).expect(&rt, "made");
+        let made = on_categories(&rt, 3, 1, 2, 1).expect(&rt, "made");
         let shape = made.shape(rt.alloc()).expect(&rt, "memory");
         assert_eq!(rt; (made.draws(), made.pieces(), shape.len()), (1, 1, 1));
         assert_eq!(rt; shape.at(0), 4);
-        let answer = released(rt.alloc(), &made, &Value::Cat(1), [3]);
-        let answer = answer.expect(&rt, "released").expect(&rt, "in the domain");
+        let answer = released(&rt, rt.alloc(), &made, &Value::Cat(1), [3]);
+        let answer = answer.expect(&rt, "released");
         assert_eq!(rt; answer.len(), 1);
         assert!(rt; matches!(answer.at(0), Piece::Cat(2)));
     }
 
     #[test]
     fn the_greatest_bound_is_two_to_the_sixty_two(rt: HostRuntime) {
-        let made = on_categories(2, 9, 10, 18).expect(&rt, "made");
+        let made = on_categories(&rt, 2, 9, 10, 18).expect(&rt, "made");
         let shape = made.shape(rt.alloc()).expect(&rt, "memory");
         assert_eq!(rt; shape.at(0), 1_150_094_635_296_999_121);
-        assert_eq!(rt; on_categories(1024, 9, 10, 18).err(), Some(Refused::Bound));
-        assert_eq!(rt; on_categories(3, 1, 2, 0).err(), Some(Refused::Bound));
+        assert_eq!(rt; on_categories(&rt, 1024, 9, 10, 18).err(), Some(Refused::Bound));
+        assert_eq!(rt; on_categories(&rt, 3, 1, 2, 0).err(), Some(Refused::Bound));
     }
 
     #[test]
     fn values_that_differ_cost_the_units(rt: HostRuntime) {
-        let made = on_categories(3, 1, 2, 4).expect(&rt, "made");
+        let made = on_categories(&rt, 3, 1, 2, 4).expect(&rt, "made");
         for (d, loss) in [(0, 0), (1, 4), (9, 4), (4_294_967_296, 4)] {
             assert_eq!(rt; made.loss(d), Ok(loss), "at {d}");
         }
@@ -254,10 +251,10 @@ mod tests {
 
     #[test]
     fn a_draw_that_fails_gives_no_reply(rt: HostRuntime) {
-        let made = on_categories(3, 1, 2, 1).expect(&rt, "made");
+        let made = on_categories(&rt, 3, 1, 2, 1).expect(&rt, "made");
         assert!(rt; made.n == 3);
         assert_eq!(rt; made.step(1, &mut NoDraws::new()), Err(Failed));
-        let fault = released(rt.alloc(), &made, &Value::Cat(1), [4]).err();
+        let fault = released(&rt, rt.alloc(), &made, &Value::Cat(1), [4]).err();
         assert_eq!(rt; fault, Some(ReleaseFault::DrawFault));
     }
 }
