@@ -249,6 +249,7 @@ fn step_each<D: Draws>(
 mod tests {
     use super::*;
     use dp_draws::Replay;
+    use std::process::Abort;
     use std::test::Fail;
 
     const CELLS: Domain = Domain::IntVec {
@@ -257,42 +258,39 @@ mod tests {
         hi: 5,
     };
 
-    /// Geometric noise for the ratio 1/2, where the domain fits.
+    const NUMBER: Domain = Domain::Int { lo: 0, hi: 9 };
+
+    /// Geometric noise for the ratio 1/2.
     fn geometric(
+        rt: &impl Abort,
         domain: Domain,
         metric: Metric,
         u: u64,
         lo: i64,
         hi: i64,
     ) -> Result<Geometric, Refused> {
-        let Ok(ratio) = Ratio::new(1, 2) else {
-            return Err(Refused::Bound);
-        };
-        if !domain.fits() {
-            return Err(Refused::Bound);
-        }
+        let ratio = Ratio::new(1, 2).expect(rt, "a ratio");
+        assert!(rt; domain.fits());
         Geometric::new(domain, metric, ratio, u, lo, hi)
     }
 
     /// What a measurement releases on a value of its domain, from these draws.
     fn released<M: Measurement, const N: usize>(
+        rt: &impl Abort,
         alloc: Global,
         m: &M,
         v: &Value,
         draws: [u64; N],
     ) -> Result<Answer, ReleaseFault> {
-        if !m.in_domain().fits() || !m.in_domain().has(v) {
-            return Err(ReleaseFault::NoMemory);
-        }
-        let Ok(draws) = Vec::from_array(alloc, draws) else {
-            return Err(ReleaseFault::NoMemory);
-        };
+        assert!(rt; m.in_domain().fits());
+        assert!(rt; m.in_domain().has(v));
+        let draws = Vec::from_array(alloc, draws).expect(rt, "memory");
         m.release(alloc, v, &mut Replay::new(draws))
     }
 
     #[test]
     fn each_cell_of_a_vector_takes_its_own_draws(rt: HostRuntime) -> Result<(), Fail> {
-        let made = geometric(CELLS, Metric::L1, 1, 0, 1).expect(&rt, "made");
+        let made = geometric(&rt, CELLS, Metric::L1, 1, 0, 1).expect(&rt, "made");
         let shape = made.shape(rt.alloc()).expect(&rt, "memory");
         assert_eq!(rt; (shape.len(), made.draws(), made.pieces()), (4, 4, 1));
         for (k, bound) in [(0, 3), (1, 2), (2, 3), (3, 2)] {
@@ -300,7 +298,7 @@ mod tests {
             assert_eq!(rt; shape.at(k), bound);
         }
         let value = Value::IntVec(Cells::from_vec(Vec::from_array(rt.alloc(), [0, 0])?));
-        let answer = released(rt.alloc(), &made, &value, [1, 1, 2, 0]).expect(&rt, "released");
+        let answer = released(&rt, rt.alloc(), &made, &value, [1, 1, 2, 0]).expect(&rt, "released");
         assert_eq!(rt; answer.len(), 1);
         assert!(rt;
             matches!(answer.at(0), Piece::IntVec(cells) if cells.as_slice() == [1, 0].as_slice())
@@ -310,16 +308,18 @@ mod tests {
 
     #[test]
     fn a_number_is_one_cell(rt: HostRuntime) -> Result<(), Fail> {
-        let made = geometric(Domain::Int { lo: 0, hi: 5 }, Metric::Absolute, 1, 0, 1).expect(
+        let made = geometric(&rt, Domain::Int { lo: 0, hi: 5 }, Metric::Absolute, 1, 0, 1).expect(
             &rt, "made",
         );
         assert!(rt; made.in_metric() == Metric::Absolute);
-        let answer = released(rt.alloc(), &made, &Value::Int(0), [1, 1]).expect(&rt, "released");
+        let answer = released(&rt, rt.alloc(), &made, &Value::Int(0), [1, 1]).expect(
+            &rt, "released",
+        );
         assert_eq!(rt; answer.len(), 1);
         assert!(rt; matches!(answer.at(0), Piece::Int(1)));
         assert!(rt;
             matches!(
-                released(rt.alloc(), &made, &Value::Int(0), [1]),
+                released(&rt, rt.alloc(), &made, &Value::Int(0), [1]),
                 Err(ReleaseFault::DrawFault)
             )
         );
@@ -327,10 +327,57 @@ mod tests {
     }
 
     #[test]
+    fn a_number_takes_one_first_draw_and_as_many_as_the_range_is_wide(rt: HostRuntime) {
+        let made = geometric(&rt, NUMBER, Metric::Absolute, 1, 0, 5).expect(&rt, "made");
+        let shape = made.shape(rt.alloc()).expect(&rt, "memory");
+        assert_eq!(rt; (shape.len(), made.draws(), made.pieces()), (6, 6, 1));
+        for (k, bound) in [(0, 3), (1, 2), (2, 2), (3, 2), (4, 2), (5, 2)] {
+            assert!(rt; k < shape.len());
+            assert_eq!(rt; shape.at(k), bound, "at {k}");
+        }
+    }
+
+    #[test]
+    fn a_number_gets_its_noise_and_stays_in_the_range(rt: HostRuntime) {
+        let made = geometric(&rt, NUMBER, Metric::Absolute, 1, 0, 5).expect(&rt, "made");
+        for (number, draws, wanted) in [
+            (2, [0, 0, 0, 0, 0, 0], 2),
+            (2, [1, 1, 0, 0, 0, 0], 3),
+            (2, [1, 0, 0, 1, 0, 0], 5),
+            (2, [2, 1, 0, 0, 0, 0], 1),
+            (2, [2, 0, 0, 0, 1, 0], 0),
+            (9, [2, 0, 1, 0, 0, 0], 3),
+        ] {
+            let answer = released(&rt, rt.alloc(), &made, &Value::Int(number), draws);
+            let answer = answer.expect(&rt, "released");
+            assert_eq!(rt; answer.len(), 1);
+            assert!(rt; matches!(answer.at(0), Piece::Int(given) if *given == wanted));
+        }
+    }
+
+    #[test]
+    fn a_vector_gets_its_noise_cell_by_cell(rt: HostRuntime) -> Result<(), Fail> {
+        let made = geometric(&rt, CELLS, Metric::L1, 1, 0, 3).expect(&rt, "made");
+        let value = Value::IntVec(Cells::from_vec(Vec::from_array(rt.alloc(), [1, 5])?));
+        for (draws, wanted) in [
+            ([1, 1, 0, 0, 2, 0, 1, 0], [2, 1]),
+            ([2, 0, 0, 0, 0, 0, 0, 0], [0, 3]),
+            ([1, 0, 0, 1, 2, 1, 1, 1], [3, 2]),
+        ] {
+            let answer = released(&rt, rt.alloc(), &made, &value, draws).expect(&rt, "released");
+            assert_eq!(rt; answer.len(), 1);
+            assert!(rt;
+                matches!(answer.at(0), Piece::IntVec(cells) if cells.as_slice() == wanted.as_slice())
+            );
+        }
+        Ok(())
+    }
+
+    #[test]
     fn each_step_of_distance_costs_u_units(rt: HostRuntime) {
-        let made = geometric(CELLS, Metric::L1, 1, 0, 1).expect(&rt, "made");
+        let made = geometric(&rt, CELLS, Metric::L1, 1, 0, 1).expect(&rt, "made");
         assert_eq!(rt; made.loss(3), Ok(3));
-        let twice = geometric(CELLS, Metric::L1, 2, 0, 1).expect(&rt, "made");
+        let twice = geometric(&rt, CELLS, Metric::L1, 2, 0, 1).expect(&rt, "made");
         assert_eq!(rt; twice.loss(2_147_483_648), Ok(4_294_967_296));
         assert_eq!(rt; twice.loss(2_147_483_649), Err(Past));
     }
@@ -362,7 +409,7 @@ mod tests {
             (CELLS, Metric::L1, 1, 0, 65_536, Refused::Bound),
         ] {
             assert!(rt;
-                matches!(geometric(domain, metric, u, lo, hi), Err(given) if given == refusal)
+                matches!(geometric(&rt, domain, metric, u, lo, hi), Err(given) if given == refusal)
             );
         }
     }
