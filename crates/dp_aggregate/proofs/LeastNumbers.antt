@@ -8,7 +8,7 @@ use Rattle.std.proofs.lemmas.List.Elements.{All-nil, All-cons, All-head, All-tai
 use Rattle.dp_aggregate.specs.Resize.{in_order, resized}
 use Rattle.dp_aggregate.specs.ResizeLaw.{Rises, OrderLaw, IsResized, ResizeLaw}
 use Rattle.dp_aggregate.specs.ResizeProof.{length-resized}
-use Rattle.dp_aggregate.specs.RisingOrder.{in_order-rises, in_order-permutes, length-in_order}
+use Rattle.dp_aggregate.specs.RisingOrderProof.{in_order-rises, in_order-permutes, length-in_order}
 
 pub order-law : OrderLaw
 order-law xs = (in_order-rises xs, in_order-permutes xs)

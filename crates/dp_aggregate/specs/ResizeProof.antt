@@ -22,9 +22,9 @@ use Rattle.dp_domain.proofs.Distance.{diff-symmetric, diff-triangle, diff-order,
 use Rattle.dp_law.specs.Mapping.{IsStable}
 use Rattle.dp_law.proofs.Caps.{capped-same, capped-le}
 use Rattle.dp_law.proofs.Suits.{both-hold}
-use Rattle.dp_aggregate.specs.Exchange.{exchange}
+use Rattle.dp_aggregate.specs.ExchangeProof.{exchange}
 use Rattle.dp_aggregate.specs.Resize.{put_in, in_order, resized, resize_value, can_resize, resize_mapping}
-use Rattle.dp_aggregate.specs.RisingOrder.{put-at, in_order-permutes, in_order-same, length-in_order}
+use Rattle.dp_aggregate.specs.RisingOrderProof.{put-at, in_order-permutes, in_order-same, length-in_order}
 
 -- the first numbers of the rising order with fill behind it
 first_of : ℕ → ℤ → List ℤ → List ℤ

@@ -2,22 +2,22 @@
 //! refusals as the definitions in `specs/` say, and is stable.
 #![tactic(auto)]
 
-mod counting;
-mod frequencies;
+mod at_least;
+mod count;
+mod histogram;
 pub mod laws;
 mod one_number;
-mod quantising;
-mod reaching;
-mod resizing;
+mod quantise;
+mod resize;
 mod rising;
-mod summing;
+mod sum;
 
-pub use counting::Count;
-pub use frequencies::Histogram;
-pub use quantising::Quantise;
-pub use reaching::AtLeast;
-pub use resizing::Resize;
-pub use summing::Sum;
+pub use at_least::AtLeast;
+pub use count::Count;
+pub use histogram::Histogram;
+pub use quantise::Quantise;
+pub use resize::Resize;
+pub use sum::Sum;
 
 #[cfg(test)]
 mod tests;

@@ -117,7 +117,9 @@ fn histograms_count_each_category(rt: HostRuntime) -> Result<(), Fail> {
 }
 
 #[test]
-fn histograms_of_sized_lists_count_and_map_to_twice_the_distance(rt: HostRuntime) -> Result<(), Fail> {
+fn histograms_of_sized_lists_count_and_map_to_twice_the_distance(
+    rt: HostRuntime,
+) -> Result<(), Fail> {
     let sized = histogram(
         Domain::Cats {
             n: 3,

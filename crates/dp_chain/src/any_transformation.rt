@@ -185,12 +185,12 @@ impl Transformation for AnyTransformation {
     ghost use Rattle.dp_rowwise.specs.contracts.drop_none.DropNoneTransformation.TheImpl.Laws.{law-law as drop_none_law};
     ghost use Rattle.dp_rowwise.specs.contracts.clamp.ClampTransformation.TheImpl.Laws.{law-law as clamp_law};
     ghost use Rattle.dp_rowwise.specs.contracts.bins.BinsTransformation.TheImpl.Laws.{law-law as bins_law};
-    ghost use Rattle.dp_aggregate.specs.contracts.resizing.ResizeTransformation.TheImpl.Laws.{law-law as resize_law};
-    ghost use Rattle.dp_aggregate.specs.contracts.counting.CountTransformation.TheImpl.Laws.{law-law as count_law};
-    ghost use Rattle.dp_aggregate.specs.contracts.summing.SumTransformation.TheImpl.Laws.{law-law as sum_law};
-    ghost use Rattle.dp_aggregate.specs.contracts.frequencies.HistogramTransformation.TheImpl.Laws.{law-law as histogram_law};
-    ghost use Rattle.dp_aggregate.specs.contracts.quantising.QuantiseTransformation.TheImpl.Laws.{law-law as quantise_law};
-    ghost use Rattle.dp_aggregate.specs.contracts.reaching.AtLeastTransformation.TheImpl.Laws.{law-law as at_least_law};
+    ghost use Rattle.dp_aggregate.specs.contracts.resize.ResizeTransformation.TheImpl.Laws.{law-law as resize_law};
+    ghost use Rattle.dp_aggregate.specs.contracts.count.CountTransformation.TheImpl.Laws.{law-law as count_law};
+    ghost use Rattle.dp_aggregate.specs.contracts.sum.SumTransformation.TheImpl.Laws.{law-law as sum_law};
+    ghost use Rattle.dp_aggregate.specs.contracts.histogram.HistogramTransformation.TheImpl.Laws.{law-law as histogram_law};
+    ghost use Rattle.dp_aggregate.specs.contracts.quantise.QuantiseTransformation.TheImpl.Laws.{law-law as quantise_law};
+    ghost use Rattle.dp_aggregate.specs.contracts.at_least.AtLeastTransformation.TheImpl.Laws.{law-law as at_least_law};
     ghost use Rattle.dp_rowwise.specs.contracts.truncate.TruncateTransformation.TheImpl.Laws.{law-law as truncate_law};
 
     ghost law = { elim [

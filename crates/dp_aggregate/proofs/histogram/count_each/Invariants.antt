@@ -1,7 +1,7 @@
 use Rattle.std.proofs.Common.{◌≡◌, ℕ, ◌<◌, get_or, take, pos, vec_len}
 use Rattle.std.specs.Prelude.{nat_eq}
 use Rattle.dp_domain.specs.Distance.{occurrences}
-use Rattle.dp_aggregate.proofs.frequencies.count_each.Given as goal
+use Rattle.dp_aggregate.proofs.histogram.count_each.Given as goal
 
 abbrev pub invariant-loop-category : goal.invariant-loop-category
 invariant-loop-category l = record {

@@ -41,7 +41,7 @@ impl Count {
 
 impl Transformation for Count {
     ghost use Rattle.dp_aggregate.specs.Count.{count_mapping};
-    ghost use Rattle.dp_aggregate.specs.CountLaw.{count_law};
+    ghost use Rattle.dp_aggregate.specs.CountProof.{count_law};
 
     ghost mapping = { λ t. count_mapping t.lists };
 

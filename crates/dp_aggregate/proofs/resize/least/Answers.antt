@@ -3,8 +3,8 @@ use Rattle.std.specs.List.Sorted.{IsPermutation}
 use Rattle.std.specs.Int.RustNames.{FitsSigned}
 use Rattle.std.proofs.lemmas.Int.{to_z-of_z}
 use Rattle.dp_aggregate.specs.Resize.{in_order, resized}
-use Rattle.dp_aggregate.specs.RisingOrder.{sorted-in_order}
-use Rattle.dp_aggregate.proofs.resizing.least.Goals as goal
+use Rattle.dp_aggregate.specs.RisingOrderProof.{sorted-in_order}
+use Rattle.dp_aggregate.proofs.resize.least.Goals as goal
 
 pub returns : goal.returns
 unfolding resized

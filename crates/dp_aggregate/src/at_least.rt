@@ -52,7 +52,7 @@ impl AtLeast {
 
 impl Transformation for AtLeast {
     ghost use Rattle.dp_aggregate.specs.AtLeast.{at_least_mapping};
-    ghost use Rattle.dp_aggregate.specs.AtLeastLaw.{at_least_law};
+    ghost use Rattle.dp_aggregate.specs.AtLeastProof.{at_least_law};
 
     ghost mapping = { λ t. at_least_mapping t.edges t.lo t.hi };
 

@@ -3,7 +3,7 @@ use Rattle.dp_domain.specs.declared.values.Value.TheVariants as value
 use Rattle.dp_law.proofs.Landing.{lands_at}
 use Rattle.dp_aggregate.specs.Resize.{resized, resize_mapping, resize_value}
 use Rattle.dp_aggregate.specs.ResizeProof.{resize_law}
-use Rattle.dp_aggregate.proofs.resizing.ResizeTransformation.apply.Goals as goal
+use Rattle.dp_aggregate.proofs.resize.ResizeTransformation.apply.Goals as goal
 
 pub returns-clause-within : goal.returns-clause-within
 returns-clause-within c =

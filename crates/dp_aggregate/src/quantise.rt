@@ -48,7 +48,7 @@ impl Quantise {
 
 impl Transformation for Quantise {
     ghost use Rattle.dp_aggregate.specs.Quantise.{quantise_mapping};
-    ghost use Rattle.dp_aggregate.specs.QuantiseLaw.{quantise_law};
+    ghost use Rattle.dp_aggregate.specs.QuantiseProof.{quantise_law};
 
     ghost mapping = { λ t. quantise_mapping t.lo t.hi t.step };
 

@@ -6,7 +6,7 @@ use Rattle.std.proofs.lemmas.List.FromFn.{fill_by_all}
 use Rattle.dp_domain.specs.Distance.{occurrences}
 use Rattle.dp_aggregate.specs.Histogram.{histogram}
 use Rattle.dp_aggregate.proofs.Frequency.{occurrences-few, count-more}
-use Rattle.dp_aggregate.proofs.frequencies.count_each.Goals as goal
+use Rattle.dp_aggregate.proofs.histogram.count_each.Goals as goal
 
 pub overflow_add-index_mut : goal.overflow_add-index_mut
 overflow_add-index_mut c =

@@ -1,6 +1,6 @@
 use Rattle.std.proofs.Common.{◌≡◌, ◌*◌, ◌^◌, take, pos, neg_ℤ, ◌≤ℤ◌}
 use Rattle.dp_domain.specs.Sums.{int_sum}
-use Rattle.dp_aggregate.proofs.summing.add_all.Given as goal
+use Rattle.dp_aggregate.proofs.sum.add_all.Given as goal
 
 abbrev pub invariant-loop-number : goal.invariant-loop-number
 invariant-loop-number l = record {

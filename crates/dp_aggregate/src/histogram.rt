@@ -42,7 +42,7 @@ impl Histogram {
 
 impl Transformation for Histogram {
     ghost use Rattle.dp_aggregate.specs.Histogram.{histogram_mapping};
-    ghost use Rattle.dp_aggregate.specs.HistogramLaw.{histogram_law};
+    ghost use Rattle.dp_aggregate.specs.HistogramProof.{histogram_law};
 
     ghost mapping = { λ t. histogram_mapping t.n t.size };
 

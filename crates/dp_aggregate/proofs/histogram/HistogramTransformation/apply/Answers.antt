@@ -2,8 +2,8 @@ use Rattle.std.proofs.Common.{◌≡◌, ap, ◌∙◌}
 use Rattle.dp_domain.specs.declared.values.Value.TheVariants as value
 use Rattle.dp_law.proofs.Landing.{lands_at}
 use Rattle.dp_aggregate.specs.Histogram.{histogram, histogram_mapping, histogram_value}
-use Rattle.dp_aggregate.specs.HistogramLaw.{histogram_law}
-use Rattle.dp_aggregate.proofs.frequencies.HistogramTransformation.apply.Goals as goal
+use Rattle.dp_aggregate.specs.HistogramProof.{histogram_law}
+use Rattle.dp_aggregate.proofs.histogram.HistogramTransformation.apply.Goals as goal
 
 pub returns-clause-within : goal.returns-clause-within
 returns-clause-within c =

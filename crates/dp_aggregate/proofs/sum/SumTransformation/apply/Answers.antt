@@ -5,8 +5,8 @@ use Rattle.dp_domain.specs.Sums.{int_sum}
 use Rattle.dp_domain.specs.declared.values.Value.TheVariants as value
 use Rattle.dp_law.proofs.Landing.{lands_at}
 use Rattle.dp_aggregate.specs.Sum.{sum_mapping, sum_value}
-use Rattle.dp_aggregate.specs.SumLaw.{sum_law}
-use Rattle.dp_aggregate.proofs.summing.SumTransformation.apply.Goals as goal
+use Rattle.dp_aggregate.specs.SumProof.{sum_law}
+use Rattle.dp_aggregate.proofs.sum.SumTransformation.apply.Goals as goal
 
 pub returns-clause-within : goal.returns-clause-within
 returns-clause-within c =

@@ -75,7 +75,7 @@ impl Sum {
 
 impl Transformation for Sum {
     ghost use Rattle.dp_aggregate.specs.Sum.{sum_mapping};
-    ghost use Rattle.dp_aggregate.specs.SumLaw.{sum_law};
+    ghost use Rattle.dp_aggregate.specs.SumProof.{sum_law};
 
     ghost mapping = { λ t. sum_mapping t.lo t.hi t.size };
 

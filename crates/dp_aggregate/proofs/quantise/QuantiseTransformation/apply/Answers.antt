@@ -4,8 +4,8 @@ use Rattle.std.specs.Int.RustNames.{FitsSigned}
 use Rattle.dp_domain.specs.declared.values.Value.TheVariants as value
 use Rattle.dp_law.proofs.Landing.{lands_at}
 use Rattle.dp_aggregate.specs.Quantise.{quantise_mapping, quantise_value}
-use Rattle.dp_aggregate.specs.QuantiseLaw.{quantise_law}
-use Rattle.dp_aggregate.proofs.quantising.QuantiseTransformation.apply.Goals as goal
+use Rattle.dp_aggregate.specs.QuantiseProof.{quantise_law}
+use Rattle.dp_aggregate.proofs.quantise.QuantiseTransformation.apply.Goals as goal
 
 pub returns-clause-within : goal.returns-clause-within
 returns-clause-within c =
