@@ -1,24 +1,20 @@
 -- The number of draw lists of every answer of geometric noise.
-use Rattle.std.proofs.Common.{◌≡◌, ℕ, ◌+◌, ◌-◌, ◌*◌, ◌^◌, ◌<◌, ℤ, ◌≤ℤ◌, ◌<ℤ◌, Bool, true, false, ◌||◌, cond, List, [], ◌∷◌, length, map, ◌⊎◌, inl, inr, refl, sym, ◌∙◌, ap, arith}
+use Rattle.std.proofs.Common.{◌≡◌, ℕ, ◌+◌, ◌-◌, ◌*◌, ◌^◌, ◌<◌, ℤ, ◌≤ℤ◌, ◌<ℤ◌, Bool, true, false, ◌||◌, cond, List, [], ◌∷◌, map, inl, inr, refl, ◌∙◌, arith}
 use Rattle.std.specs.Prelude.{int_lt}
 use Rattle.std.specs.Ordering.{int_eq}
 use Rattle.std.proofs.lemmas.Int.{ints}
 use Rattle.std.proofs.lemmas.Bool.Decides.{Decides-int_eq}
 use Rattle.dp_count.specs.Slots.{product_of_ways}
 use Rattle.dp_count.proofs.Slots.{count-replies}
-use Rattle.dp_domain.specs.declared.domains.Domain.{Domain}
 use Rattle.dp_domain.specs.declared.domains.Domain.TheVariants as domain
-use Rattle.dp_domain.specs.declared.values.Value.{Value}
 use Rattle.dp_domain.specs.declared.values.Value.TheVariants as value
-use Rattle.dp_domain.specs.Domains.{Has}
 use Rattle.dp_law.specs.declared.pieces.Piece.{Piece}
 use Rattle.dp_law.specs.declared.pieces.Piece.TheVariants as piece
-use Rattle.dp_law.specs.Mechanism.{ways}
 use Rattle.dp_geometric.specs.OneCell.{width}
 use Rattle.dp_geometric.specs.CellLaw as cell
 use Rattle.dp_geometric.specs.CellLaw.{away, CellCounts}
 use Rattle.dp_geometric.specs.CellProof.{cell-counts}
-use Rattle.dp_geometric.specs.Geometric.{cell_slot, is_numeric, geometric}
+use Rattle.dp_geometric.specs.Geometric.{cell_slot}
 use Rattle.dp_geometric.specs.GeometricLaw.{number_ways, number-is, vector_ways, vector-is}
 use Rattle.dp_geometric.specs.GeometricWays.{cell_draws_for, cells_draws_for, draws_for, WaysLaw}
 

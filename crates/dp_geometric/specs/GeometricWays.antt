@@ -16,12 +16,14 @@ use Rattle.dp_geometric.specs.Geometric.{is_numeric, geometric}
 abbrev pub cell_draws_for : ℤ → ℤ → ℕ → ℕ → ℤ → ℤ → ℕ
 cell_draws_for lo hi low high v a = if int_lt a lo || int_lt hi a then 0
     else if int_eq lo hi then high + low
-    else (if int_eq a lo || int_eq a hi then high else high - low) * low ^ away lo hi v a * high ^ (width lo hi - away lo hi v a)
+    else (if int_eq a lo || int_eq a hi then high else high - low)
+    * low ^ away lo hi v a * high ^ (width lo hi - away lo hi v a)
 
 -- of as many cells as answers: the product of each cell's number
 unfoldable pub cells_draws_for : ℤ → ℤ → ℕ → ℕ → List ℤ → List ℤ → ℕ
 cells_draws_for lo hi low high [] [] = 1
-cells_draws_for lo hi low high (z ∷ zs) (a ∷ answers) = cell_draws_for lo hi low high z a * cells_draws_for lo hi low high zs answers
+cells_draws_for lo hi low high (z ∷ zs) (a ∷ answers) =
+    cell_draws_for lo hi low high z a * cells_draws_for lo hi low high zs answers
 cells_draws_for lo hi low high _ _ = 0
 
 -- of a number or of a vector; an answer of another kind, or of no piece or several, is given by none
@@ -32,5 +34,6 @@ draws_for lo hi low high _ _ = 0
 
 -- the number of draw lists that give an answer on a value of the domain
 abbrev pub WaysLaw : Type 0
-WaysLaw = (input : Domain) (p q u : ℕ) (lo hi : ℤ) (low high : ℕ) (v : Value) (answer : List Piece) → is_numeric input ≡ true → Has input v → lo ≤ℤ hi → low < high
+WaysLaw = (input : Domain) (p q u : ℕ) (lo hi : ℤ) (low high : ℕ) (v : Value) (answer : List Piece)
+    → is_numeric input ≡ true → Has input v → lo ≤ℤ hi → low < high
     → ways (geometric input p q u lo hi low high) v answer ≡ draws_for lo hi low high v answer

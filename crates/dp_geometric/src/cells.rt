@@ -34,7 +34,8 @@ pub struct Cell {
 }
 
 impl Cell {
-    /// The cell of these numbers, with how many draw lists give each answer on each value, and the privacy of the answers.
+    /// The cell of these numbers, with how many draw lists give each answer on each value, and the privacy of the
+    /// answers.
     pub fn new(lo: i64, hi: i64, low: u64, high: u64) -> Cell
         requires least { neg_ℤ (pos (2 ^ 61)) ≤ℤ lo }
         requires ordered { lo ≤ℤ hi }
