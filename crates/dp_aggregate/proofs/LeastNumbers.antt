@@ -1,12 +1,12 @@
 -- Resizing parts a list into its least numbers and the rest.
-use Rattle.std.proofs.Common.{◌≡◌, ℕ, ◌-◌, ℤ, ◌≤ℤ◌, List, [], ◌∷◌, ◌++◌, length, take, drop, min, refl, sym, ◌∙◌, ap, subst, arith}
+use Rattle.std.proofs.Common.{◌≡◌, ℤ, ◌≤ℤ◌, List, [], ◌∷◌, ◌++◌, length, take, drop, min, refl, sym, ◌∙◌, ap, subst}
 use Rattle.std.specs.Prelude.{All}
 use Rattle.std.specs.List.Sorted.{IsPermutation}
-use Rattle.std.proofs.lemmas.List.{take-append-drop, length-take, take-append-le}
+use Rattle.std.proofs.lemmas.List.{take-append-drop, length-take}
 use Rattle.std.proofs.Math.Seq.{take-append_seam, drop-append_seam}
-use Rattle.std.proofs.lemmas.List.Elements.{All-nil, All-cons, All-head, All-tail, All-take, All-drop}
+use Rattle.std.proofs.lemmas.List.Elements.{All-nil, All-cons, All-take, All-drop}
 use Rattle.dp_aggregate.specs.Resize.{in_order, resized}
-use Rattle.dp_aggregate.specs.ResizeLaw.{Rises, OrderLaw, IsResized, ResizeLaw}
+use Rattle.dp_aggregate.specs.ResizeLaw.{Rises, OrderLaw, ResizeLaw}
 use Rattle.dp_aggregate.specs.ResizeProof.{length-resized}
 use Rattle.dp_aggregate.specs.RisingOrderProof.{in_order-rises, in_order-permutes, length-in_order}
 

@@ -228,7 +228,10 @@ mod tests {
         let made = on_categories(&rt, 2, 9, 10, 18).expect(&rt, "made");
         let shape = made.shape(rt.alloc()).expect(&rt, "memory");
         assert_eq!(rt; shape.at(0), 1_150_094_635_296_999_121);
-        assert_eq!(rt; on_categories(&rt, 1024, 9, 10, 18).err(), Some(Refused::Bound));
+        assert_eq!(rt;
+            on_categories(&rt, 1024, 9, 10, 18).err(),
+            Some(Refused::Bound)
+        );
         assert_eq!(rt; on_categories(&rt, 3, 1, 2, 0).err(), Some(Refused::Bound));
     }
 
