@@ -1,5 +1,5 @@
 -- The table of the weights.
-use Rattle.std.proofs.Common.{◌≡◌, ℕ, zero, suc, ◌+◌, ◌*◌, ◌/◌, ◌≤◌, ◌<◌, Bool, true, false, List, [], ◌∷◌, ◌++◌, length, get_or, refl, sym, ◌∙◌, ap, subst, arith, eqb, leb, cond, Option, Some, None, ℤ, pos, ◌-ℤ◌, nat_abs, w64, to_z, of_z, take, length-append}
+use Rattle.std.proofs.Common.{◌≡◌, ℕ, zero, suc, ◌+◌, ◌*◌, ◌/◌, ◌≤◌, ◌<◌, Bool, true, false, List, [], ◌∷◌, ◌++◌, length, get_or, refl, sym, ◌∙◌, ap, subst, arith, eqb, ltb, leb, cond, Option, Some, None, ℤ, pos, ◌-ℤ◌, nat_abs, w64, to_z, of_z, take, length-append}
 use Rattle.std.specs.Prelude.{slice_index}
 use Rattle.std.specs.Int.{int_min, int_max}
 use Rattle.std.specs.List.{sum}
@@ -9,6 +9,7 @@ use mir.Val.{SFits}
 use Rattle.std.proofs.lemmas.Bool.Decides.{nat_tests}
 use Rattle.std.proofs.Math.ListN.{get_or-append}
 use Rattle.std.proofs.Math.Seq.{get_or-append_seam}
+use Rattle.std.proofs.Math.Nat.{le-div_iff_mul-le}
 use Rattle.dp_choice.specs.Choosing.{weight, score, weights, last_below}
 use Rattle.dp_choice.specs.Choice.{weight_table}
 use Rattle.dp_choice.specs.WeightLaws.{length-weights}
@@ -92,3 +93,18 @@ sum-part first low high floor top cells i = sum_by-take-le (λ n. n) (weights fi
 pub last-next : (n : ℕ) (test : ℕ → Bool) → last_below (suc n) test ≡ cond (test n) n (last_below n test)
 unfolding last_below
 last-next n test = refl
+
+-- a share is at most a draw exactly where the exact share lies below the next draw
+pub share-test : (t s : Bool) (exact total draw : ℕ) → 1 ≤ total → ltb exact ((draw + 1) * total) ≡ t → leb (exact / total) draw ≡ s → t ≡ s
+share-test true true exact total draw h e f = refl
+share-test false false exact total draw h e f = refl
+share-test true false exact total draw h e f =
+    let under : exact < (draw + 1) * total = grind (arith, nat_tests) in
+    let over : draw + 1 ≤ exact / total = grind (arith, nat_tests) in
+    let most = (le-div_iff_mul-le {k = total} {x = draw + 1} {y = exact} h).0 over in
+    absurd (omega (arith, under, most))
+share-test false true exact total draw h e f =
+    let over : (draw + 1) * total ≤ exact = grind (arith, nat_tests) in
+    let under : exact / total ≤ draw = grind (arith, nat_tests) in
+    let most = (le-div_iff_mul-le {k = total} {x = draw + 1} {y = exact} h).1 over in
+    absurd (omega (arith, under, most))

@@ -27,17 +27,18 @@ unfoldable pub weight_table : ℕ → ℕ → ℕ → ℕ → List ℕ
 weight_table first low high zero = first ∷ []
 weight_table first low high (suc s) = weight_table first low high s ++ weight first low high (suc s) ∷ []
 
--- a table of these weights, or none where the greatest of them is greater than the bound of the draw
-abbrev pub IsTable : ℕ → ℕ → ℕ → ℕ → Option (List ℕ) → Type 0
-IsTable first low high most (Some table) = (table ≡ weight_table first low high most) × (weight first low high most ≤ all_draws)
-IsTable first low high most None = all_draws < weight first low high most
+-- the weight of the greatest score, or none where it is greater than the bound of the draw
+abbrev pub IsGreatest : ℕ → ℕ → ℕ → ℕ → Option ℕ → Type 0
+IsGreatest first low high most (Some greatest) = (greatest ≡ weight first low high most) × (greatest ≤ all_draws)
+IsGreatest first low high most None = all_draws < weight first low high most
 
 -- the category that is chosen on a value
 abbrev pub choose : ℕ → ℕ → ℕ → ℕ → ℤ → ℤ → Value → List ℕ → List Piece
 choose n first low high floor top (value.IntVec cells) draws = piece.Cat (chosen_by n (weights first low high floor top cells) draws) ∷ []
 choose n first low high floor top _ draws = []
 
--- no loss at the distance 0; else 2 u d, and one unit for the rounding of the shares
+-- no loss at the distance 0; else 2 u d, and one unit for the rounding of the shares. It is about twice what is needed:
+-- u d + 1 suffices by L1, since the chosen cell and the sum of the weights share the distance
 abbrev pub choice_loss : ℕ → ℕ → Option ℕ
 choice_loss u d = if d == 0 then Some 0 else capped (2 * u * d + 1)
 

@@ -60,18 +60,6 @@ place_ways-share n ws j h below =
     let bounds = share-bounds n ws j h below in
     record { exact = rw add-one is; least = rw is bounds.0; most = rw is bounds.1 }
 
--- the law of the numbers
-pub choice_ways : WaysLaw
-unfolding ways place_ways
-choice_ways = record {
-  cell = λ n first len lo hi p q u floor top low high cells j a b c h.
-      let same = length-weights first low high floor top cells in
-      place_ways-share n (weights first low high floor top cells) j (weights-positive first low high floor top cells a b c (omega arith)) (omega arith);
-  outside = λ n first len lo hi p q u floor top low high cells j h out.
-      let same = length-weights first low high floor top cells in
-      place_ways-outside n (weights first low high floor top cells) j (omega arith) (omega arith);
-}
-
 -- one place on vectors that are near
 place-near : (n first len p q u d : ℕ) (floor top : ℤ) (low high : ℕ) (xs ys : List ℤ) (j : ℕ) → 1 ≤ first → p ≤ q → 1 ≤ low → low ≤ high → low ≡ p ^ u → high ≡ q ^ u → floor ≤ℤ top →
     n * first * p + len * weight first low high (nat_abs (top -ℤ floor)) * (q + p) ≤ n * first * q → length xs ≡ len → length ys ≡ len → l1 xs ys ≤ d → j < len →
@@ -121,6 +109,32 @@ ways-answer n first len lo hi p q u floor top low high cells (piece.Int z ∷ re
 ways-answer n first len lo hi p q u floor top low high cells (piece.IntVec zs ∷ rest) = count-never (n ∷ []) _ (λ d f. refl)
 ways-answer n first len lo hi p q u floor top low high cells (piece.Cat j ∷ []) = refl
 ways-answer n first len lo hi p q u floor top low high cells (piece.Cat j ∷ (other ∷ rest)) = count-never (n ∷ []) _ (λ d f. and-false (eqb (chosen_by n (weights first low high floor top cells) d) j))
+
+-- an answer that is no cell's place
+never-at : (inside : Bool) (n : ℕ) (ws : List ℕ) (j : ℕ) → ltb j (length ws) ≡ inside → 1 ≤ length ws → (j < length ws → ⊥) → place_ways n ws j ≡ 0
+never-at true n ws j e some h = absurd (h (grind (arith, nat_tests)))
+never-at false n ws j e some h = place_ways-outside n ws j some (grind (arith, nat_tests))
+
+answer-never : (n : ℕ) (ws : List ℕ) (answer : List Piece) → 1 ≤ length ws → ((j : ℕ) → j < length ws → answer ≡ piece.Cat j ∷ [] → ⊥) → answer_ways n ws answer ≡ 0
+unfolding answer_ways
+answer-never n ws [] some h = refl
+answer-never n ws (piece.Int z ∷ rest) some h = refl
+answer-never n ws (piece.IntVec zs ∷ rest) some h = refl
+answer-never n ws (piece.Cat j ∷ []) some h = never-at (ltb j (length ws)) n ws j refl some (λ below. h j below refl)
+answer-never n ws (piece.Cat j ∷ (next ∷ rest)) some h = refl
+
+-- the law of the numbers
+pub choice_ways : WaysLaw
+unfolding ways place_ways
+choice_ways = record {
+  cell = λ n first len lo hi p q u floor top low high cells j a b c h.
+      let same = length-weights first low high floor top cells in
+      place_ways-share n (weights first low high floor top cells) j (weights-positive first low high floor top cells a b c (omega arith)) (omega arith);
+  other = λ n first len lo hi p q u floor top low high cells answer some h.
+      let same = length-weights first low high floor top cells in
+      ways-answer n first len lo hi p q u floor top low high cells answer
+      ∙ answer-never n (weights first low high floor top cells) answer (omega arith) (λ j below. h j (omega arith));
+}
 
 answer-private : (n first len p q u d : ℕ) (floor top : ℤ) (low high : ℕ) (xs ys : List ℤ) (answer : List Piece) → 1 ≤ first → p ≤ q → 1 ≤ low → low ≤ high → low ≡ p ^ u → high ≡ q ^ u → floor ≤ℤ top →
     n * first * p + len * weight first low high (nat_abs (top -ℤ floor)) * (q + p) ≤ n * first * q → 1 ≤ len → length xs ≡ len → length ys ≡ len → l1 xs ys ≤ d →

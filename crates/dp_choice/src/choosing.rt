@@ -13,7 +13,7 @@ ghost use Rattle.dp_law.specs.declared.pieces.Piece.TheVariants as piece;
 ghost use Rattle.dp_law.specs.Making.{MakesOr};
 ghost use Rattle.dp_law.specs.Releasing.{Released, ReleaseCause, MemoryFirst};
 ghost use Rattle.dp_choice.specs.Choosing.{weight, score, weights, chosen};
-ghost use Rattle.dp_choice.specs.Choice.{first_weight, all_draws, weight_table, IsTable, IsFittingTable, is_score_range, weights_fit, choice_from};
+ghost use Rattle.dp_choice.specs.Choice.{first_weight, all_draws, weight_table, IsGreatest, IsFittingTable, is_score_range, weights_fit, choice_from};
 ghost use Rattle.dp_choice.specs.ChoicePrivacy.{HasRoom};
 
 use dp_count::{Failed, NoMemory, Shape};
@@ -39,7 +39,14 @@ const MOST_SCORE: i64 = 65_535;
 const MOST_UNITS: u64 = 4_294_967_296;
 
 /// Weighted choice of a vector's cell, for the ratio p/q and u units. A cell's score is how far its number is above
-/// `floor` after it is brought into `floor`..=`top`, and with each step of the score its weight grows by q^u / p^u.
+/// `floor` after it is brought into `floor`..=`top`. The score 0 has the weight 65,536, and with each step of the score
+/// the weight grows by q^u / p^u, rounded down. One draw is taken below N = 2^62, and each cell has its share of the N
+/// draws, rounded down. With W the weight of the score top - floor and `len` the vector's length, two conditions hold:
+/// len · W ≤ 2^62, so that the sum of the weights fits, and len · W · (q + p) ≤ 2^62 · 65,536 · (q - p), so that every
+/// share leaves room for its rounding.
+///
+/// The loss at the distance d is 2·u·d + 1 units, the one for the rounding, and 0 at d = 0. That is about twice what is
+/// needed: by L1 u·d + 1 suffices, since the cell that is chosen and the sum of the weights share the distance.
 #[derive(Debug, Drop)]
 pub struct Choice {
     len: u32,
@@ -70,8 +77,9 @@ impl Choice {
     /// Weighted choice with `u` units and scores from `floor` to `top` on the domain. `Kind` comes exactly where the
     /// domain is not `IntVec`, `Metric` exactly where it is and the metric is not `L1`, and `Bound` exactly where
     /// neither comes and the powers p^u and q^u are refused, not -2^61 ≤ floor < top ≤ 2^61, top - floor is greater than
-    /// 65,535, or the weights don't fit: the greatest weight times the vector's length is greater than 2^62, or it leaves
-    /// no room for rounding the shares.
+    /// 65,535, or the weights don't fit: the greatest weight W times the vector's length is greater than 2^62, or that
+    /// product times q + p is greater than 2^62 · 65,536 · (q - p), which leaves no room for rounding the shares. All this
+    /// is tested before memory is taken.
     pub fn new(
         alloc: Global,
         domain: Domain,
@@ -183,7 +191,7 @@ impl Choice {
         let mut before = 0;
         let mut place = 0;
         for cell in cells {
-            chosen = later(share(before, total), draw, place, chosen);
+            chosen = later(reaches(before, total, draw), place, chosen);
             before += self.weight(*cell);
             place += 1;
         }
@@ -199,23 +207,25 @@ fn entry(table: &[u64], score: u64) -> u64
     table[score as usize]
 }
 
-/// The place, where its share is at most the draw, and else the place that was chosen before.
-fn later(share: u64, draw: u64, place: u32, chosen: u32) -> u32
-    ensures { result ≡ (if nat_le share draw then place else chosen) }
+/// The place, where the draw reaches it, and else the place that was chosen before.
+fn later(reached: bool, place: u32, chosen: u32) -> u32
+    ensures { result ≡ (if reached then place else chosen) }
 {
-    if share <= draw { place } else { chosen }
+    if reached { place } else { chosen }
 }
 
-/// The share of all draws that weights with the sum `before` have in `total`, rounded down.
-fn share(before: u64, total: u64) -> u64
-    requires few { before ≤ total }
+/// Whether the share of all draws that weights with the sum `before` have in `total`, rounded down, is at most the
+/// draw. It is, exactly where 2^62 · before < (draw + 1) · total.
+fn reaches(before: u64, total: u64, draw: u64) -> bool
+    requires few { total ≤ all_draws }
     requires positive { 1 ≤ total }
-    ensures { result ≡ all_draws * before / total }
+    ensures { result ≡ nat_le (all_draws * before / total) draw }
 {
-    (u128::from(ALL_DRAWS) * u128::from(before) / u128::from(total)) as u64
+    u128::from(ALL_DRAWS) * u128::from(before) < (u128::from(draw) + 1) * u128::from(total)
 }
 
 /// The weights of the scores from 0 to top - floor, or none where these bounds are refused or the weights don't fit.
+/// No table is allocated before it is known that they fit.
 fn fitting_table(
     alloc: Global,
     len: u32,
@@ -234,13 +244,13 @@ fn fitting_table(
         return Ok(None);
     }
     let most = width(floor, top);
-    let Some(table) = weight_table(alloc, low, high, most)? else {
+    let Some(greatest) = greatest_weight(low, high, most) else {
         return Ok(None);
     };
-    if !weights_fit(len, entry(&table, most), ratio.p(), ratio.q()) {
+    if !weights_fit(len, greatest, ratio.p(), ratio.q()) {
         return Ok(None);
     }
-    Ok(Some(table))
+    Ok(Some(weight_table(alloc, low, high, most)?))
 }
 
 /// The greatest score of a range of scores.
@@ -266,30 +276,43 @@ fn weights_fit(len: u32, most: u64, p: u64, q: u64) -> bool
     requires few { most ≤ all_draws }
     ensures { result ≡ weights_fit len most p q }
 {
+    let all = u128::from(ALL_DRAWS);
     let sum = u128::from(len) * u128::from(most);
-    sum <= u128::from(ALL_DRAWS)
-        && sum * u128::from(q + p)
-            <= u128::from(ALL_DRAWS) * u128::from(FIRST_WEIGHT) * u128::from(q - p)
+    sum <= all && sum * u128::from(q + p) <= all * u128::from(FIRST_WEIGHT) * u128::from(q - p)
 }
 
-/// The weights of the scores from 0 to `most`, or none where one of them is greater than 2^62.
-fn weight_table(alloc: Global, low: u64, high: u64, most: u64) -> Result<Option<Vec<u64>>, NoMemory>
+/// The weight of the score `most`, which is the greatest, or none where it is greater than 2^62.
+fn greatest_weight(low: u64, high: u64, most: u64) -> Option<u64>
+    requires positive { 1 ≤ low }
+    requires order { low ≤ high }
+    ensures { IsGreatest first_weight low high most result }
+{
+    let mut weight = FIRST_WEIGHT;
+    for _score in 0..most {
+        let Some(next) = next_weight(weight, low, high) else {
+            return None;
+        };
+        weight = next;
+    }
+    Some(weight)
+}
+
+/// The weights of the scores from 0 to `most`.
+fn weight_table(alloc: Global, low: u64, high: u64, most: u64) -> Result<Vec<u64>, NoMemory>
     requires positive { 1 ≤ low }
     requires order { low ≤ high }
     requires few { most ≤ 65535 }
-    ensures { IfOk result (λ table. IsTable first_weight low high most (option_map (λ t. t.items) table)) }
+    requires fits { weight first_weight low high most ≤ all_draws }
+    ensures { IfOk result (λ table. table.items ≡ weight_table first_weight low high most) }
 {
-    let mut table = Vec::new(alloc);
+    let mut table = Vec::with_capacity(alloc, most as usize + 1)?;
     let mut weight = FIRST_WEIGHT;
     table.push(weight)?;
     for _score in 0..most {
-        let Some(next) = next_weight(weight, low, high) else {
-            return Ok(None);
-        };
-        weight = next;
+        weight = grown(weight, low, high) as u64;
         table.push(weight)?;
     }
-    Ok(Some(table))
+    Ok(table)
 }
 
 /// The weight one score higher, where it is at most 2^62.
@@ -297,11 +320,19 @@ fn next_weight(weight: u64, low: u64, high: u64) -> Option<u64>
     requires { 1 ≤ low }
     ensures { result ≡ (if nat_le (weight * high / low) all_draws then Some (weight * high / low) else None) }
 {
-    let next = u128::from(weight) * u128::from(high) / u128::from(low);
+    let next = grown(weight, low, high);
     if next > u128::from(ALL_DRAWS) {
         return None;
     }
     Some(next as u64)
+}
+
+/// The weight one score higher.
+fn grown(weight: u64, low: u64, high: u64) -> u128
+    requires { 1 ≤ low }
+    ensures { result ≡ weight * high / low }
+{
+    u128::from(weight) * u128::from(high) / u128::from(low)
 }
 
 impl Measurement for Choice {
@@ -450,12 +481,23 @@ mod tests {
 
     #[test]
     fn each_weight_is_rounded_down(rt: HostRuntime) {
-        let table = weight_table(rt.alloc(), 9, 10, 5).expect(&rt, "memory");
-        let weights = table.expect(&rt, "weights below 2^62");
+        let made = choice(rt.alloc(), CELLS, Metric::L1, (9, 10), 1, 0, 5).expect(&rt, "made");
         let wanted = [65_536, 72_817, 80_907, 89_896, 99_884, 110_982];
-        assert!(rt; weights.as_slice() == wanted.as_slice());
-        let past = weight_table(rt.alloc(), 1, 2, 47).expect(&rt, "memory");
-        assert!(rt; past.is_none());
+        assert!(rt; made.table.as_slice() == wanted.as_slice());
+    }
+
+    #[test]
+    fn the_greatest_weight_is_at_most_two_to_the_62(rt: HostRuntime) {
+        assert!(rt; greatest_weight(1, 2, 46) == Some(4_611_686_018_427_387_904));
+        assert!(rt; greatest_weight(1, 2, 47).is_none());
+    }
+
+    #[test]
+    fn shares_need_room_for_their_rounding(rt: HostRuntime) {
+        assert!(rt; weights_fit(1, 2_305_860_601_533_957_120, 65_535, 65_536));
+        assert!(rt; !weights_fit(1, 2_305_860_601_533_957_121, 65_535, 65_536));
+        assert!(rt; weights_fit(1, 4_611_686_018_427_387_904, 1, 2));
+        assert!(rt; !weights_fit(3, 2_305_843_009_213_693_952, 1, 2));
     }
 
     #[test]

@@ -2,7 +2,8 @@
 ghost use Rattle.dp_choice.specs.ChoiceWays.{WaysLaw};
 ghost use Rattle.dp_choice.specs.ChoicePrivacy.{PrivacyLaw};
 
-/// How many draws choose each cell: what its weight adds to the share of the draws, rounded down.
+/// How many draws choose each cell: what its weight adds to the share of the draws, rounded down. No other answer has
+/// any draw.
 pub fn ways_law()
     ensures { WaysLaw }
 {}

@@ -1,27 +1,25 @@
-use Rattle.std.proofs.Common.{◌≡◌, ◌<◌, ◌*◌, ◌/◌, ℕ, suc, ◌∙◌, sym, refl, ap, add-one, arith}
+use Rattle.std.proofs.Common.{◌≡◌, ◌≤◌, ◌*◌, ◌/◌, ℕ, suc, ◌∙◌, sym, refl, ap, add-one, arith}
 use Rattle.dp_choice.specs.Choosing.{weight}
 use Rattle.dp_choice.specs.Choice.{first_weight, all_draws, weight_table}
 use Rattle.dp_choice.specs.WeightLaws.{weight-most}
-use Rattle.dp_choice.proofs.Tables.{table-next, weight-more, past-limit, within-limit}
+use Rattle.dp_choice.proofs.Tables.{table-next, weight-more}
 use Rattle.dp_choice.proofs.choosing.weight_table.Goals as goal
 
 pub loop-score-init : goal.loop-score-init
 unfolding weight_table weight
-loop-score-init c = (rw c.new-table.ensures.items at c.in_ok-push.ensures.items, refl, omega arith)
+loop-score-init c = (rw c.in_ok-table.ensures.items at c.in_ok-push.ensures.items, refl)
 
-pub returns-in_default : goal.returns-in_default
-returns-in_default c =
+pub overflow_cast-weight : goal.overflow_cast-weight
+overflow_cast-weight c =
     let l = c.loop-score in
     let turn = c.loop-score-test.true in
     let most = weight-most first_weight c.args.low c.args.high (suc l._score) c.args.most c.requires.positive c.requires.order (omega arith) in
-    let out : all_draws < l.weight * c.args.high / c.args.low = past-limit _ _ _ refl c.in_default.ensures in
-    let next : weight first_weight c.args.low c.args.high (suc l._score) ≡ l.weight * c.args.high / c.args.low = weight-more first_weight c.args.low c.args.high l._score ∙ ap (λ (w : ℕ). w * c.args.high / c.args.low) (sym l.invariant.1) in
-    omega arith
+    let next : c.grown-weight.result ≡ weight first_weight c.args.low c.args.high (suc l._score) = c.grown-weight.ensures ∙ ap (λ (w : ℕ). w * c.args.high / c.args.low) l.invariant.1 ∙ sym (weight-more first_weight c.args.low c.args.high l._score) in
+    record { fits = omega (arith, next, most, c.requires.fits) }
 
 pub loop-score-preserved : goal.loop-score-preserved
 loop-score-preserved c =
     let l = c.loop-score in
-    let given = within-limit _ _ _ _ refl c.in-Some.ensures in
-    let next : c.in-Some.next ≡ weight first_weight c.args.low c.args.high (suc l._score) = given.0 ∙ ap (λ (w : ℕ). w * c.args.high / c.args.low) l.invariant.1 ∙ sym (weight-more first_weight c.args.low c.args.high l._score) in
+    let next : c.grown-weight.result ≡ weight first_weight c.args.low c.args.high (suc l._score) = c.grown-weight.ensures ∙ ap (λ (w : ℕ). w * c.args.high / c.args.low) l.invariant.1 ∙ sym (weight-more first_weight c.args.low c.args.high l._score) in
     let items : c.push-in-loop-score.new.self.items ≡ weight_table first_weight c.args.low c.args.high (suc l._score) = c.in_ok-push-2.ensures.items ∙ rw (l.invariant.0, next) (sym (table-next first_weight c.args.low c.args.high l._score)) in
-    (rw add-one items, rw add-one next, omega (arith, given.0, given.1))
+    (rw add-one items, rw add-one next)

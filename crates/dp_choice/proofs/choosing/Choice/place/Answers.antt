@@ -34,7 +34,7 @@ loop-cell-preserved c =
     let more = sum-more first_weight s.low s.high s.floor s.top c.args.cells.now l.cell-index c.loop-cell-test.true in
     let ws = weights first_weight s.low s.high s.floor s.top c.args.cells.now in
     let test = λ (j : ℕ). leb (share all_draws ws j) c.args.draw in
-    let given : c.share.result ≡ share all_draws ws l.cell-index = c.share.ensures ∙ rw (l.invariant.0, c.requires.total) refl in
+    let given : c.reaches.result ≡ leb (share all_draws ws l.cell-index) c.args.draw = c.reaches.ensures ∙ rw (l.invariant.0, c.requires.total) refl in
     let next : c.later-chosen.result ≡ last_below (suc l.cell-index) test = c.later-chosen.ensures ∙ rw (given, l.invariant.1, l.invariant.2) (sym (last-next l.cell-index test)) in
     (omega (arith, l.invariant.0, one, more), omega (arith, l.invariant.1), rw add-one next)
 
