@@ -1,6 +1,6 @@
-use Rattle.std.proofs.Common.{◌≡◌, ◌≤◌, ◌*◌, ◌/◌, ℕ, suc, ◌∙◌, sym, refl, ap, add-one, arith}
+use Rattle.std.proofs.Common.{◌≡◌, ◌*◌, ◌/◌, ℕ, suc, ◌∙◌, sym, refl, ap, add-one, arith}
 use Rattle.dp_choice.specs.Choosing.{weight}
-use Rattle.dp_choice.specs.Choice.{first_weight, all_draws, weight_table}
+use Rattle.dp_choice.specs.Choice.{first_weight, weight_table}
 use Rattle.dp_choice.specs.WeightLaws.{weight-most}
 use Rattle.dp_choice.proofs.Tables.{table-next, weight-more}
 use Rattle.dp_choice.proofs.choosing.weight_table.Goals as goal

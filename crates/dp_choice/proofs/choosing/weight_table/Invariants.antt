@@ -1,6 +1,6 @@
-use Rattle.std.proofs.Common.{◌≡◌, ◌≤◌}
+use Rattle.std.proofs.Common.{◌≡◌}
 use Rattle.dp_choice.specs.Choosing.{weight}
-use Rattle.dp_choice.specs.Choice.{first_weight, all_draws, weight_table}
+use Rattle.dp_choice.specs.Choice.{first_weight, weight_table}
 use Rattle.dp_choice.proofs.choosing.weight_table.Given as goal
 
 abbrev pub invariant-loop-score : goal.invariant-loop-score
