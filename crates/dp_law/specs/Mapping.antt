@@ -6,7 +6,8 @@ use Rattle.dp_domain.specs.declared.values.Value.{Value}
 use Rattle.dp_domain.specs.Domains.{Fits, Has}
 use Rattle.dp_domain.specs.Metrics.{Within, SuitsMetric}
 
--- the stability map gives None where the distance is greater than 2 ^ 32
+-- the stability map gives how far apart the results of values within a distance can be: at most 2 ^ 32, or None where
+-- the part states no distance
 pub record Mapping : Type 0 where
   pub input_domain : Domain
   pub input_metric : Metric

@@ -11,8 +11,8 @@ use Rattle.dp_domain.specs.Metrics.{Within, SuitsMetric}
 use Rattle.dp_law.specs.declared.pieces.Piece.{Piece}
 use Rattle.dp_law.specs.AnswerEquality.{same_answer}
 
--- the function goes from a value and a draw list of the shape to an answer; the privacy map gives None where the loss
--- is greater than 2 ^ 32
+-- the function goes from a value and a draw list of the shape to an answer; the privacy map gives the loss in units
+-- between values within a distance: at most 2 ^ 32, or None where the measurement states no loss
 pub record Mechanism : Type 0 where
   pub input_domain : Domain
   pub input_metric : Metric
@@ -34,8 +34,8 @@ IsBound bound = (1 ≤ bound) × (bound ≤ 2 ^ 62)
 abbrev pub IsBelowOne : ℕ → ℕ → Type 0
 IsBelowOne p q = (1 ≤ p) × (p < q) × (q ≤ 65536)
 
--- the domain fits, the metric is used with it, shape and answers keep their limits, and for values within d the numbers of draw lists of every
--- answer keep the ratio at the privacy map of d
+-- the domain fits, the metric is used with it, shape and answers keep their limits, and for values within d the numbers
+-- of draw lists of every answer keep the ratio at the privacy map of d
 pub record IsPrivate (m : Mechanism) : Type 0 where
   pub input_fits : Fits m.input_domain
   pub input_suits : SuitsMetric m.input_domain m.input_metric
