@@ -3,6 +3,7 @@ use dp_count::NoMemory;
 use dp_domain::{Domain, Items, Metric, Value};
 use dp_law::{Refused, Transformation, list_metric};
 use std::alloc::Global;
+use std::process::Abort;
 use std::test::Fail;
 
 fn ints(lo: i64, hi: i64, size: Option<u32>) -> Domain {
@@ -17,12 +18,16 @@ fn categories(alloc: Global, list: &[u32]) -> Result<Value, NoMemory> {
     Ok(Value::Cats(Items::from_vec(Vec::from_slice(alloc, list)?)))
 }
 
-/// The part's number or category, where its input domain has the value.
-fn number_of<T: Transformation>(alloc: Global, part: &T, v: &Value) -> Option<i64> {
+/// The part's number or category of a value of its input domain.
+fn number_of<T: Transformation>(
+    rt: &impl Abort,
+    alloc: Global,
+    part: &T,
+    v: &Value,
+) -> Option<i64> {
     let domain = part.in_domain();
-    if !domain.fits() || !domain.has(v) {
-        return None;
-    }
+    assert!(rt; domain.fits());
+    assert!(rt; domain.has(v));
     match part.apply(alloc, v) {
         Ok(Value::Int(number)) => Some(number),
         Ok(Value::Cat(category)) => Some(i64::from(category)),
@@ -30,12 +35,17 @@ fn number_of<T: Transformation>(alloc: Global, part: &T, v: &Value) -> Option<i6
     }
 }
 
-/// Whether the input domain of the part has the value, and the part gives the list or the vector.
-fn gives<T: Transformation>(alloc: Global, part: &T, v: &Value, wanted: &[i64]) -> bool {
+/// Whether the part gives the list or the vector of a value of its input domain.
+fn gives<T: Transformation>(
+    rt: &impl Abort,
+    alloc: Global,
+    part: &T,
+    v: &Value,
+    wanted: &[i64],
+) -> bool {
     let domain = part.in_domain();
-    if !domain.fits() || !domain.has(v) {
-        return false;
-    }
+    assert!(rt; domain.fits());
+    assert!(rt; domain.has(v));
     match part.apply(alloc, v) {
         Ok(Value::Ints(list)) => list.as_slice() == wanted,
         Ok(Value::IntVec(cells)) => cells.as_slice() == wanted,
@@ -43,28 +53,27 @@ fn gives<T: Transformation>(alloc: Global, part: &T, v: &Value, wanted: &[i64]) 
     }
 }
 
-/// The part's distance at `d`, where it is not past.
-fn distance_of<T: Transformation>(part: &T, d: u64) -> Option<u64> {
-    if d > 4_294_967_296 {
-        return None;
-    }
+/// The part's distance at `d`, which is at most 2^32, where it is not past.
+fn distance_of<T: Transformation>(rt: &impl Abort, part: &T, d: u64) -> Option<u64> {
+    assert!(rt; d <= 4_294_967_296);
     part.map(d).ok()
 }
 
-fn sum(domain: Domain, metric: Metric) -> Result<Sum, Refused> {
-    if !domain.fits() {
-        return Err(Refused::Bound);
-    }
+fn sum(rt: &impl Abort, domain: Domain, metric: Metric) -> Result<Sum, Refused> {
+    assert!(rt; domain.fits());
     Sum::new(domain, metric)
 }
 
-fn sum_map(lo: i64, hi: i64, size: Option<u32>, d: u64) -> Option<u64> {
-    distance_of(&sum(ints(lo, hi, size), list_metric(size)).ok()?, d)
+/// The distance at `d` of the sum of a list.
+fn sum_map(rt: &impl Abort, lo: i64, hi: i64, size: Option<u32>, d: u64) -> Option<u64> {
+    let part = sum(rt, ints(lo, hi, size), list_metric(size)).expect(rt, "made");
+    distance_of(rt, &part, d)
 }
 
-fn sum_of(alloc: Global, size: Option<u32>, list: &[i64]) -> Option<i64> {
-    let part = sum(ints(-5, 10, size), list_metric(size)).ok()?;
-    number_of(alloc, &part, &numbers(alloc, list).ok()?)
+/// The sum of a list of numbers from -5 to 10.
+fn sum_of(rt: &impl Abort, alloc: Global, size: Option<u32>, list: &[i64]) -> Option<i64> {
+    let part = sum(rt, ints(-5, 10, size), list_metric(size)).expect(rt, "made");
+    number_of(rt, alloc, &part, &numbers(alloc, list).expect(rt, "memory"))
 }
 
 #[test]
@@ -83,7 +92,7 @@ fn sums_map_by_the_greatest_bound_or_by_the_range(rt: HostRuntime) {
         ),
         (-2_147_483_648, 2_147_483_648, Some(1), 2, None),
     ] {
-        assert_eq!(rt; sum_map(lo, hi, size, d), wanted);
+        assert_eq!(rt; sum_map(&rt, lo, hi, size, d), wanted);
     }
 }
 
@@ -94,25 +103,23 @@ fn sums_add(rt: HostRuntime) {
         (None, &[][..], 0),
         (Some(3), &[-5, -5, -5][..], -15),
     ] {
-        assert_eq!(rt; sum_of(rt.alloc(), size, list), Some(wanted));
+        assert_eq!(rt; sum_of(&rt, rt.alloc(), size, list), Some(wanted));
     }
 }
 
-fn histogram(domain: Domain, metric: Metric) -> Result<Histogram, Refused> {
-    if !domain.fits() {
-        return Err(Refused::Bound);
-    }
+fn histogram(rt: &impl Abort, domain: Domain, metric: Metric) -> Result<Histogram, Refused> {
+    assert!(rt; domain.fits());
     Histogram::new(domain, metric)
 }
 
 #[test]
 fn histograms_count_each_category(rt: HostRuntime) -> Result<(), Fail> {
     let alloc = rt.alloc();
-    let plain = histogram(Domain::Cats { n: 3, size: None }, Metric::Symmetric)?;
+    let plain = histogram(&rt, Domain::Cats { n: 3, size: None }, Metric::Symmetric)?;
     for (list, wanted) in [(&[0, 2, 0][..], &[2, 0, 1][..]), (&[][..], &[0, 0, 0][..])] {
-        assert!(rt; gives(alloc, &plain, &categories(alloc, list)?, wanted));
+        assert!(rt; gives(&rt, alloc, &plain, &categories(alloc, list)?, wanted));
     }
-    assert_eq!(rt; distance_of(&plain, 2), Some(2));
+    assert_eq!(rt; distance_of(&rt, &plain, 2), Some(2));
     Ok(())
 }
 
@@ -121,6 +128,7 @@ fn histograms_of_sized_lists_count_and_map_to_twice_the_distance(
     rt: HostRuntime,
 ) -> Result<(), Fail> {
     let sized = histogram(
+        &rt,
         Domain::Cats {
             n: 3,
             size: Some(4),
@@ -128,27 +136,38 @@ fn histograms_of_sized_lists_count_and_map_to_twice_the_distance(
         Metric::ChangeOne,
     )?;
     let list = categories(rt.alloc(), &[2, 0, 2, 2])?;
-    assert!(rt; gives(rt.alloc(), &sized, &list, &[1, 0, 3]));
+    assert!(rt; gives(&rt, rt.alloc(), &sized, &list, &[1, 0, 3]));
     for (d, wanted) in [
         (2, Some(4)),
         (2_147_483_648, Some(4_294_967_296)),
         (2_147_483_649, None),
     ] {
-        assert_eq!(rt; distance_of(&sized, d), wanted);
+        assert_eq!(rt; distance_of(&rt, &sized, d), wanted);
     }
     Ok(())
 }
 
-fn resize(domain: Domain, metric: Metric, size: u64, fill: i64) -> Result<Resize, Refused> {
-    if !domain.fits() {
-        return Err(Refused::Bound);
-    }
+fn resize(
+    rt: &impl Abort,
+    domain: Domain,
+    metric: Metric,
+    size: u64,
+    fill: i64,
+) -> Result<Resize, Refused> {
+    assert!(rt; domain.fits());
     Resize::new(domain, metric, size, fill)
 }
 
-fn resizes(alloc: Global, size: u64, list: &[i64], wanted: &[i64]) -> Result<bool, Fail> {
-    let part = resize(ints(-9, 9, None), Metric::Symmetric, size, 0)?;
-    Ok(gives(alloc, &part, &numbers(alloc, list)?, wanted))
+/// Whether resizing a list of numbers from -9 to 9, with 0 as fill, gives the wanted list.
+fn resizes(
+    rt: &impl Abort,
+    alloc: Global,
+    size: u64,
+    list: &[i64],
+    wanted: &[i64],
+) -> Result<bool, Fail> {
+    let part = resize(rt, ints(-9, 9, None), Metric::Symmetric, size, 0)?;
+    Ok(gives(rt, alloc, &part, &numbers(alloc, list)?, wanted))
 }
 
 #[test]
@@ -159,83 +178,90 @@ fn resizing_keeps_the_least_and_fills_up(rt: HostRuntime) -> Result<(), Fail> {
         (2, &[][..], &[0, 0][..]),
         (2, &[4, -4, 4][..], &[-4, 4][..]),
     ] {
-        assert!(rt; resizes(rt.alloc(), size, list, wanted)?);
+        assert!(rt; resizes(&rt, rt.alloc(), size, list, wanted)?);
     }
     Ok(())
 }
 
-fn quantise(domain: Domain, metric: Metric, step: u64) -> Result<Quantise, Refused> {
-    if !domain.fits() {
-        return Err(Refused::Bound);
-    }
+fn quantise(
+    rt: &impl Abort,
+    domain: Domain,
+    metric: Metric,
+    step: u64,
+) -> Result<Quantise, Refused> {
+    assert!(rt; domain.fits());
     Quantise::new(domain, metric, step)
 }
 
 #[test]
 fn quantising_rounds_down(rt: HostRuntime) -> Result<(), Fail> {
-    let thirds = quantise(Domain::Int { lo: -7, hi: 7 }, Metric::Absolute, 3)?;
+    let thirds = quantise(&rt, Domain::Int { lo: -7, hi: 7 }, Metric::Absolute, 3)?;
     for (number, wanted) in [(-7, -3), (-6, -2), (-1, -1), (0, 0), (2, 0), (7, 2)] {
         assert_eq!(rt;
-            number_of(rt.alloc(), &thirds, &Value::Int(number)),
+            number_of(&rt, rt.alloc(), &thirds, &Value::Int(number)),
             Some(wanted)
         );
     }
     for (d, wanted) in [(0, 0), (1, 1), (3, 1), (4, 2)] {
-        assert_eq!(rt; distance_of(&thirds, d), Some(wanted));
+        assert_eq!(rt; distance_of(&rt, &thirds, d), Some(wanted));
     }
     Ok(())
 }
 
-fn at_least(domain: Domain, metric: Metric, edges: Vec<i64>) -> Result<AtLeast, Refused> {
-    if !domain.fits() {
-        return Err(Refused::Bound);
-    }
+fn at_least(
+    rt: &impl Abort,
+    domain: Domain,
+    metric: Metric,
+    edges: Vec<i64>,
+) -> Result<AtLeast, Refused> {
+    assert!(rt; domain.fits());
     AtLeast::new(domain, metric, edges)
 }
 
 #[test]
 fn an_edge_is_reached_from_itself_on(rt: HostRuntime) -> Result<(), Fail> {
     let edges = vec![in rt.alloc(); 2, 5]?;
-    let part = at_least(Domain::Int { lo: -9, hi: 9 }, Metric::Absolute, edges)?;
+    let part = at_least(&rt, Domain::Int { lo: -9, hi: 9 }, Metric::Absolute, edges)?;
     for (number, wanted) in [(-9, 0), (1, 0), (2, 1), (4, 1), (5, 2), (9, 2)] {
         assert_eq!(rt;
-            number_of(rt.alloc(), &part, &Value::Int(number)),
+            number_of(&rt, rt.alloc(), &part, &Value::Int(number)),
             Some(wanted)
         );
     }
     for (d, wanted) in [(0, 0), (1, 1), (5, 1)] {
-        assert_eq!(rt; distance_of(&part, d), Some(wanted));
+        assert_eq!(rt; distance_of(&rt, &part, d), Some(wanted));
     }
     Ok(())
 }
 
-fn count(domain: Domain, metric: Metric) -> Result<Count, Refused> {
-    if !domain.fits() {
-        return Err(Refused::Bound);
-    }
+fn count(rt: &impl Abort, domain: Domain, metric: Metric) -> Result<Count, Refused> {
+    assert!(rt; domain.fits());
     Count::new(domain, metric)
 }
 
 #[test]
 fn lists_are_counted(rt: HostRuntime) -> Result<(), Fail> {
     let alloc = rt.alloc();
-    let part = count(ints(-5, 5, None), Metric::Symmetric)?;
-    assert_eq!(rt; number_of(alloc, &part, &numbers(alloc, &[3, 3])?), Some(2));
-    let part = count(Domain::Texts, Metric::Symmetric)?;
+    let part = count(&rt, ints(-5, 5, None), Metric::Symmetric)?;
     assert_eq!(rt;
-        number_of(alloc, &part, &Value::Texts(Items::new(alloc))),
+        number_of(&rt, alloc, &part, &numbers(alloc, &[3, 3])?),
+        Some(2)
+    );
+    let part = count(&rt, Domain::Texts, Metric::Symmetric)?;
+    assert_eq!(rt;
+        number_of(&rt, alloc, &part, &Value::Texts(Items::new(alloc))),
         Some(0)
     );
-    assert_eq!(rt; distance_of(&part, 4_294_967_296), Some(4_294_967_296));
+    assert_eq!(rt; distance_of(&rt, &part, 4_294_967_296), Some(4_294_967_296));
     Ok(())
 }
 
 /// What `Count`, `Sum` and `Histogram` are refused for.
-fn refusals(domain: Domain, metric: Metric) -> [Option<Refused>; 3] {
+fn refusals(rt: &impl Abort, domain: Domain, metric: Metric) -> [Option<Refused>; 3] {
     [
-        count(domain, metric).err(),
-        sum(domain, metric).err(),
-        histogram(domain, metric).err(),
+        count(rt, domain, metric).err(),
+        sum(rt, domain, metric).err(),
+        histogram(rt, domain, metric).err(),
     ]
 }
 
@@ -292,7 +318,7 @@ fn parts_of_lists_are_refused_by_kind_and_then_by_metric(rt: HostRuntime) {
             [KIND, KIND, KIND],
         ),
     ] {
-        assert_eq!(rt; refusals(domain, metric), wanted);
+        assert_eq!(rt; refusals(&rt, domain, metric), wanted);
     }
 }
 
@@ -311,7 +337,7 @@ fn resizing_is_refused_by_kind_metric_and_bound(rt: HostRuntime) {
         (ints(-3, 9, Some(4)), Metric::ChangeOne, 0, 0, METRIC),
         (Domain::Texts, Metric::L1, 0, 0, KIND),
     ] {
-        assert_eq!(rt; resize(domain, metric, size, fill).err(), wanted);
+        assert_eq!(rt; resize(&rt, domain, metric, size, fill).err(), wanted);
     }
 }
 
@@ -326,27 +352,32 @@ fn quantising_is_refused_by_kind_metric_and_bound(rt: HostRuntime) {
         (number, Metric::Discrete, 0, METRIC),
         (Domain::Cat { n: 2 }, Metric::Discrete, 0, KIND),
     ] {
-        assert_eq!(rt; quantise(domain, metric, step).err(), wanted);
+        assert_eq!(rt; quantise(&rt, domain, metric, step).err(), wanted);
     }
 }
 
 /// What `AtLeast` is refused for at the edges.
 fn edges_refusal(
+    rt: &impl Abort,
     alloc: Global,
     metric: Metric,
     edges: &[i64],
 ) -> Result<Option<Refused>, NoMemory> {
     let domain = Domain::Int { lo: 0, hi: 9 };
-    Ok(at_least(domain, metric, Vec::from_slice(alloc, edges)?).err())
+    Ok(at_least(rt, domain, metric, Vec::from_slice(alloc, edges)?).err())
 }
 
 /// What `AtLeast` is refused for at so many edges.
-fn many_edges_refusal(alloc: Global, count: i64) -> Result<Option<Refused>, NoMemory> {
+fn many_edges_refusal(
+    rt: &impl Abort,
+    alloc: Global,
+    count: i64,
+) -> Result<Option<Refused>, NoMemory> {
     let mut edges = Vec::new(alloc);
     for edge in 0..count {
         edges.push(edge)?;
     }
-    edges_refusal(alloc, Metric::Absolute, edges.as_slice())
+    edges_refusal(rt, alloc, Metric::Absolute, edges.as_slice())
 }
 
 #[test]
@@ -362,11 +393,11 @@ fn edges_are_refused_by_kind_metric_and_bound(rt: HostRuntime) -> Result<(), Fai
         (Metric::Absolute, &[0, limit + 1][..], BOUND),
         (Metric::L1, &[][..], METRIC),
     ] {
-        assert_eq!(rt; edges_refusal(rt.alloc(), metric, edges)?, wanted);
+        assert_eq!(rt; edges_refusal(&rt, rt.alloc(), metric, edges)?, wanted);
     }
     let none = Vec::new(rt.alloc());
-    assert_eq!(rt; at_least(Domain::Texts, Metric::L1, none).err(), KIND);
-    assert_eq!(rt; many_edges_refusal(rt.alloc(), 1023)?, None);
-    assert_eq!(rt; many_edges_refusal(rt.alloc(), 1024)?, BOUND);
+    assert_eq!(rt; at_least(&rt, Domain::Texts, Metric::L1, none).err(), KIND);
+    assert_eq!(rt; many_edges_refusal(&rt, rt.alloc(), 1023)?, None);
+    assert_eq!(rt; many_edges_refusal(&rt, rt.alloc(), 1024)?, BOUND);
     Ok(())
 }
