@@ -43,3 +43,17 @@ fn a_copy_of_numbers_is_equal(rt: HostRuntime) -> Result<(), Fail> {
     assert!(rt; matches!(&cats, Value::Cats(found) if found.as_slice() == [2, 0].as_slice()));
     Ok(())
 }
+
+#[test]
+fn a_copy_of_one_number_of_one_category_and_of_a_vector_is_equal(
+    rt: HostRuntime,
+) -> Result<(), Fail> {
+    let alloc = rt.alloc();
+    let int = Value::Int(-3).copy(alloc)?;
+    assert!(rt; matches!(&int, Value::Int(found) if *found == -3));
+    let cat = Value::Cat(2).copy(alloc)?;
+    assert!(rt; matches!(&cat, Value::Cat(found) if *found == 2));
+    let cells = Value::IntVec(Items::from_vec(Vec::from_slice(alloc, &[7, -3])?)).copy(alloc)?;
+    assert!(rt; matches!(&cells, Value::IntVec(found) if found.as_slice() == [7, -3].as_slice()));
+    Ok(())
+}
