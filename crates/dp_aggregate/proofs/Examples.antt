@@ -7,7 +7,7 @@ use Rattle.dp_domain.specs.declared.metrics.Metric.TheVariants as metrics
 use Rattle.dp_domain.specs.Sums.{int_sum}
 use Rattle.dp_law.specs.declared.refusals.Refused.TheVariants as refused
 use Rattle.dp_aggregate.specs.Count.{count_from}
-use Rattle.dp_aggregate.specs.Edges.{edges_reached, is_rising}
+use Rattle.dp_domain.specs.Edges.{edges_at_most, is_rising}
 use Rattle.dp_aggregate.specs.Histogram.{histogram, histogram_factor}
 use Rattle.dp_aggregate.specs.Quantise.{quantised}
 use Rattle.dp_aggregate.specs.Resize.{in_order, resized, resize_from}
@@ -31,14 +31,14 @@ rounded_down = refl
 rounded_up : capped (div_ceil 4 3) ≡ Some 2
 rounded_up = refl
 
-no_edge_reached : edges_reached (pos 2 ∷ pos 5 ∷ []) (pos 1) ≡ 0
+no_edge_reached : edges_at_most (pos 2 ∷ pos 5 ∷ []) (pos 1) ≡ 0
 no_edge_reached = refl
 
-an_edge_reached_exactly : edges_reached (pos 2 ∷ pos 5 ∷ []) (pos 2) ≡ 1
+an_edge_reached_exactly : edges_at_most (pos 2 ∷ pos 5 ∷ []) (pos 2) ≡ 1
 an_edge_reached_exactly = refl
 
-all_edges_reached : edges_reached (pos 2 ∷ pos 5 ∷ []) (pos 5) ≡ 2
-all_edges_reached = refl
+all_edges_at_most : edges_at_most (pos 2 ∷ pos 5 ∷ []) (pos 5) ≡ 2
+all_edges_at_most = refl
 
 edges_that_stand_still : is_rising (pos 2 ∷ pos 2 ∷ []) ≡ false
 edges_that_stand_still = refl

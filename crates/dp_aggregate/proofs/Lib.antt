@@ -1,4 +1,3 @@
-pub mod EdgeTests
 pub mod Examples
 pub mod Frequency
 pub mod LeastNumbers

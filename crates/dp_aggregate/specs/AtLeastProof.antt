@@ -1,27 +1,19 @@
 -- Telling which edges a number reaches is stable.
-use Rattle.std.proofs.Common.{◌≡◌, ℕ, ◌+◌, ◌^◌, ◌≤◌, min, ℤ, ◌-ℤ◌, Bool, IsTrue, ◌&&◌, List, length, Some, Option, inl, inr, ap, arith}
-use Rattle.std.specs.Prelude.{nat_abs, nat_le, int_le}
-use Rattle.std.specs.List.{list_all}
+use Rattle.std.proofs.Common.{◌≡◌, ℕ, ◌+◌, ◌≤◌, min, ℤ, ◌-ℤ◌, List, length, Some, Option, inl, inr, ap, arith}
+use Rattle.std.specs.Prelude.{nat_abs, int_le}
 use Rattle.std.proofs.lemmas.Int.{ints}
 use Rattle.std.proofs.lemmas.Bool.{cases_lt}
-use Rattle.std.proofs.lemmas.Bool.Decides.{nat_tests}
 use Rattle.std.proofs.lemmas.List.Sums.{count_by-le-length}
 use Rattle.dp_domain.specs.declared.domains.Domain.TheVariants as domain
 use Rattle.dp_domain.specs.declared.metrics.Metric.TheVariants as metrics
 use Rattle.dp_domain.specs.declared.values.Value.{Value}
 use Rattle.dp_domain.specs.declared.values.Value.TheVariants as value
 use Rattle.dp_domain.specs.Domains.{Fits, Has}
+use Rattle.dp_domain.specs.Edges.{edges_at_most}
 use Rattle.dp_domain.specs.Metrics.{Within}
 use Rattle.dp_law.specs.Mapping.{IsStable}
 use Rattle.dp_law.proofs.Suits.{both-hold}
-use Rattle.dp_aggregate.specs.Edges.{edges_reached, is_within, is_rising, are_edges}
 use Rattle.dp_aggregate.specs.AtLeast.{at_least_value, at_least_mapping}
-
-few-edges : (n : ℕ) (within rising : Bool) → IsTrue (nat_le 1 n && nat_le n 1023 && within && rising) → (1 ≤ n) × (n ≤ 1023)
-few-edges n within rising h = grind (arith, nat_tests)
-
-at_least_fits : (limit : ℕ) (edges : List ℤ) → IsTrue (are_edges limit edges) → Fits (domain.Cat (length edges + 1))
-at_least_fits limit edges h = let few = few-edges (length edges) (list_all (is_within limit) edges) (is_rising edges) h in (omega arith, omega arith)
 
 at_least_lands : (edges : List ℤ) (lo hi : ℤ) (v : Value) → Has (domain.Int lo hi) v → Has (domain.Cat (length edges + 1)) (at_least_value edges v)
 at_least_lands edges lo hi (value.Int z) has = omega (arith, count_by-le-length (λ edge. int_le edge z) edges)
@@ -33,17 +25,17 @@ same-number z w h = omega (arith, ints)
 at_least_stable : (edges : List ℤ) (d e : ℕ) (v w : Value) → min d 1 ≡ e → Within metrics.Absolute d v w → Within metrics.Discrete e (at_least_value edges v) (at_least_value edges w)
 at_least_stable edges d e (value.Int z) (value.Int w) map_is near = elim (cases_lt 0 d) [
   | inl far ↦ inr (omega arith)
-  | inr same ↦ inl (ap (edges_reached edges) (same-number z w (omega arith)))
+  | inr same ↦ inl (ap (edges_at_most edges) (same-number z w (omega arith)))
 ]
 at_least_stable edges d e v w map_is near = absurd near
 
 map-is : (m e : ℕ) → ◌≡◌ {A = Option ℕ} (Some m) (Some e) → m ≡ e
 map-is m e h = cc
 
-pub at_least_law : (edges : List ℤ) (lo hi : ℤ) → Fits (domain.Int lo hi) → IsTrue (are_edges (2 ^ 61) edges) → IsStable (at_least_mapping edges lo hi)
-at_least_law edges lo hi input good = record {
+pub at_least_law : (edges : List ℤ) (lo hi : ℤ) → Fits (domain.Int lo hi) → Fits (domain.Cat (length edges + 1)) → IsStable (at_least_mapping edges lo hi)
+at_least_law edges lo hi input output = record {
   input_fits = input;
-  output_fits = at_least_fits (2 ^ 61) edges good;
+  output_fits = output;
   suits = both-hold tt tt;
   lands = at_least_lands edges lo hi;
   limited = λ d e map_is. let same = map-is (min d 1) e map_is in omega arith;

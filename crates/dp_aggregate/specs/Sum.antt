@@ -8,7 +8,7 @@ use Rattle.dp_domain.specs.declared.metrics.Metric.{Metric}
 use Rattle.dp_domain.specs.declared.metrics.Metric.TheVariants as metrics
 use Rattle.dp_domain.specs.declared.values.Value.{Value}
 use Rattle.dp_domain.specs.declared.values.Value.TheVariants as value
-use Rattle.dp_domain.specs.Domains.{IsBetween}
+use Rattle.dp_domain.specs.Domains.{item_limit, IsBetween}
 use Rattle.dp_domain.specs.Sums.{int_sum}
 use Rattle.dp_law.specs.declared.refusals.Refused.{Refused}
 use Rattle.dp_law.specs.declared.refusals.Refused.TheVariants as refused
@@ -17,7 +17,7 @@ use Rattle.dp_law.specs.Making.{tested, list_metric, is_list_metric}
 
 -- a number that a list may have is from -2 ^ 31 to 2 ^ 31
 abbrev pub IsItem : ℤ → Type 0
-IsItem z = IsBetween (neg_ℤ (pos (2 ^ 31))) (pos (2 ^ 31)) z
+IsItem z = IsBetween (neg_ℤ (pos item_limit)) (pos item_limit) z
 
 -- the sum of a list
 abbrev pub sum_value : Value → Value

@@ -1,15 +1,14 @@
-ghost use Rattle.std.specs.Prelude.{◌≡◌, ◌^◌, IsTrue, IfOk, IsOk};
+ghost use Rattle.std.specs.Prelude.{◌≡◌, ◌+◌, true, length, IfOk, IsOk};
 ghost use Rattle.dp_domain.specs.Domains.{Fits, Has};
+ghost use Rattle.dp_domain.specs.Edges.{is_rising};
 ghost use Rattle.dp_domain.proofs.Limits.{Fits-prop};
 ghost use Rattle.dp_law.specs.Making.{Makes};
 ghost use Rattle.dp_domain.specs.declared.domains.Domain.TheVariants as domain;
 ghost use Rattle.dp_aggregate.specs.AtLeast.{at_least_from};
-ghost use Rattle.dp_aggregate.specs.Edges.{are_edges};
 
 use crate::one_number::is_absolute;
-use crate::rising::{are_edges, edges_reached};
 use dp_count::NoMemory;
-use dp_domain::{Domain, Ints, Metric, Value};
+use dp_domain::{Domain, Ints, Metric, NUMBER_LIMIT, Value, are_edges, edges_at_most};
 use dp_law::{Refused, Transformation};
 use dp_num::Past;
 use std::alloc::Global;
@@ -22,7 +21,8 @@ pub struct AtLeast {
     lo: i64,
     hi: i64,
     ghost input_fits: { Fits (domain.Int lo hi) } by { Fits-prop (domain.Int lo hi) },
-    ghost edges_fit: { IsTrue (are_edges (2 ^ 61) edges) },
+    ghost output_fits: { Fits (domain.Cat (length edges + 1)) } by { Fits-prop (domain.Cat (length edges + 1)) },
+    ghost rising: { is_rising edges ≡ true },
 }
 
 impl AtLeast {
@@ -39,7 +39,7 @@ impl AtLeast {
         if !is_absolute(metric) {
             return Err(Refused::Metric);
         }
-        if !are_edges(edges.as_slice()) {
+        if !are_edges(&NUMBER_LIMIT, edges.as_slice()) {
             return Err(Refused::Bound);
         }
         Ok(AtLeast {
@@ -90,8 +90,8 @@ impl Transformation for AtLeast {
         let Value::Int(number) = v else {
             unreachable!()
         };
-        Ok(Value::Cat(edges_reached(self.edges.as_slice(), number)))
+        Ok(Value::Cat(edges_at_most(self.edges.as_slice(), number)))
     }
 
-    ghost law = { λ t. at_least_law t.edges t.lo t.hi t.input_fits t.edges_fit };
+    ghost law = { λ t. at_least_law t.edges t.lo t.hi t.input_fits t.output_fits };
 }

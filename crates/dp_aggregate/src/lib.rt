@@ -9,7 +9,6 @@ pub mod laws;
 mod one_number;
 mod quantise;
 mod resize;
-mod rising;
 mod sum;
 
 pub use at_least::AtLeast;

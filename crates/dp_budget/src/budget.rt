@@ -7,14 +7,11 @@ ghost use Rattle.dp_budget.specs.declared.budget.Rule.TheVariants as rule;
 
 use crate::Over;
 use dp_count::Items;
-use dp_num::{Bound, Past};
+use dp_num::{Bound, MOST_UNITS, Past};
 use std::marker::Model;
 
 /// Numbers of units, each for one query, in order.
 pub type Mids = Items<u64>;
-
-/// The greatest number of units.
-const MOST_UNITS: u64 = 4_294_967_296;
 
 /// The greatest number of mids.
 const MOST_MIDS: u64 = 1024;

@@ -1,11 +1,13 @@
 -- What the conditions of a choice tell.
 use Rattle.std.proofs.Common.{◌≡◌, ℕ, ◌+◌, ◌-◌, ◌*◌, ◌^◌, ◌≤◌, ◌<◌, Bool, true, false, ◌&&◌, refl, arith, ℤ, pos, neg_ℤ, ◌-ℤ◌, ◌≤ℤ◌, nat_abs, w64, to_z, of_z}
-use Rattle.std.specs.Prelude.{int_le, int_lt, nat_le}
+use Rattle.std.specs.Prelude.{int_lt, nat_le}
 use Rattle.std.proofs.lemmas.Int.{ints, to_z-of_z}
 use mir.Val.{SFits}
 use Rattle.std.proofs.lemmas.Bool.Decides.{nat_tests}
 use Rattle.dp_domain.specs.declared.domains.Domain.TheVariants as domain
 use Rattle.dp_domain.specs.Domains.{Fits}
+use Rattle.dp_domain.specs.Ranges.{is_narrow_range}
+use Rattle.dp_domain.proofs.NarrowRanges.{narrow-range}
 use Rattle.dp_choice.specs.Choosing.{weight}
 use Rattle.dp_choice.specs.Choice.{first_weight, all_draws, is_score_range, weights_fit, is_choice}
 use Rattle.dp_choice.specs.ChoicePrivacy.{HasRoom}
@@ -14,17 +16,11 @@ both-of : (a b : Bool) → (a && b) ≡ true → (a ≡ true) × (b ≡ true)
 both-of true b e = (refl, e)
 both-of false b e = absurd (cc)
 
-all-of : (a b c d : Bool) → (a && b && c && d) ≡ true → (a ≡ true) × (b ≡ true) × (c ≡ true) × (d ≡ true)
-all-of true true true true e = (refl, refl, refl, refl)
-all-of false b c d e = absurd (cc)
-all-of true false c d e = absurd (cc)
-all-of true true false d e = absurd (cc)
-all-of true true true false e = absurd (cc)
-
-range-of : (floor top : ℤ) → is_score_range floor top ≡ true → (neg_ℤ (pos (2 ^ 61)) ≤ℤ floor) × (floor ≤ℤ top) × (top ≤ℤ pos (2 ^ 61)) × ((top -ℤ floor) ≤ℤ pos 65535)
+range-of : (floor top : ℤ) → is_score_range floor top ≡ true →
+    (neg_ℤ (pos (2 ^ 61)) ≤ℤ floor) × (floor ≤ℤ top) × (top ≤ℤ pos (2 ^ 61)) × ((top -ℤ floor) ≤ℤ pos 65535)
 range-of floor top e =
-    let all = all-of (int_le (neg_ℤ (pos (2 ^ 61))) floor) (int_lt floor top) (int_le top (pos (2 ^ 61))) (int_le (top -ℤ floor) (pos 65535)) e in
-    (omega (arith, ints, all.0), omega (arith, ints, all.1), omega (arith, ints, all.2), omega (arith, ints, all.3))
+    let all = narrow-range floor top (both-of (int_lt floor top) (is_narrow_range floor top) e).1 in
+    (all.0.0, all.0.1, all.0.2, all.1)
 
 nat-le : (t : Bool) (a b : ℕ) → nat_le a b ≡ t → t ≡ true → a ≤ b
 nat-le true a b e h = grind (arith, nat_tests)

@@ -1,7 +1,7 @@
 -- The table of the weights.
 use Rattle.std.proofs.Common.{◌≡◌, ℕ, zero, suc, ◌+◌, ◌*◌, ◌/◌, ◌≤◌, ◌<◌, Bool, true, false, List, [], ◌∷◌, ◌++◌, length, get_or, refl, sym, ◌∙◌, ap, subst, arith, eqb, ltb, leb, cond, Option, Some, None, ℤ, pos, ◌-ℤ◌, nat_abs, w64, to_z, of_z, take, length-append}
 use Rattle.std.specs.Prelude.{slice_index}
-use Rattle.std.specs.Int.{int_min, int_max}
+use Rattle.dp_domain.specs.Ranges.{clamped}
 use Rattle.std.specs.List.{sum}
 use Rattle.std.proofs.lemmas.Int.{to_z-of_z}
 use Rattle.std.proofs.lemmas.List.Sums.{sum_by_more, sum_by-take-le}
@@ -70,9 +70,9 @@ within-limit true n limit x e h = (cc, grind (arith, nat_tests))
 within-limit false n limit x e h = absurd (cc)
 
 -- a score from words of 64 bits
-pub scored : (floor top cell near : ℤ) (r : ℕ) → SFits w64 cell → SFits w64 near → r ≡ nat_abs (to_z w64 (of_z w64 near) -ℤ floor) → near ≡ int_min (int_max (to_z w64 (of_z w64 cell)) floor) top → r ≡ score floor top cell
+pub scored : (floor top cell near : ℤ) (r : ℕ) → SFits w64 cell → SFits w64 near → r ≡ nat_abs (to_z w64 (of_z w64 near) -ℤ floor) → near ≡ clamped floor top (to_z w64 (of_z w64 cell)) → r ≡ score floor top cell
 scored floor top cell near r fits_cell fits_near given e =
-    given ∙ ap (λ z. nat_abs (z -ℤ floor)) (to_z-of_z w64 near fits_near ∙ e ∙ ap (λ z. int_min (int_max z floor) top) (to_z-of_z w64 cell fits_cell))
+    given ∙ ap (λ z. nat_abs (z -ℤ floor)) (to_z-of_z w64 near fits_near ∙ e ∙ ap (λ z. clamped floor top z) (to_z-of_z w64 cell fits_cell))
 
 -- the weights of a vector, cell by cell
 weights-at : (first low high : ℕ) (floor top : ℤ) (cells : List ℤ) (i : ℕ) → i < length cells → get_or (weights first low high floor top cells) i 0 ≡ weight first low high (score floor top (get_or cells i (pos 0)))

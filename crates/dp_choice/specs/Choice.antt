@@ -1,5 +1,5 @@
 -- Weighted choice as a measurement.
-use Rattle.std.specs.Prelude.{◌≡◌, ◌≤◌, ◌<◌, ℕ, zero, suc, ◌+◌, ◌-◌, ◌*◌, ◌^◌, ◌==◌, ◌&&◌, ℤ, pos, neg_ℤ, ◌-ℤ◌, nat_abs, int_le, int_lt, nat_le, Bool, true, false, List, [], ◌∷◌, ◌++◌, Option, Some, None, Result, Ok, Err, if◌then◌else◌}
+use Rattle.std.specs.Prelude.{◌≡◌, ◌≤◌, ◌<◌, ℕ, zero, suc, ◌+◌, ◌-◌, ◌*◌, ◌^◌, ◌==◌, ◌&&◌, ℤ, ◌-ℤ◌, nat_abs, int_lt, nat_le, Bool, true, false, List, [], ◌∷◌, ◌++◌, Option, Some, None, Result, Ok, Err, if◌then◌else◌}
 use Rattle.dp_num.specs.Limits.{capped, powers}
 use Rattle.dp_domain.specs.declared.domains.Domain.{Domain}
 use Rattle.dp_domain.specs.declared.domains.Domain.TheVariants as domain
@@ -7,6 +7,7 @@ use Rattle.dp_domain.specs.declared.metrics.Metric.{Metric}
 use Rattle.dp_domain.specs.declared.metrics.Metric.TheVariants as metrics
 use Rattle.dp_domain.specs.declared.values.Value.{Value}
 use Rattle.dp_domain.specs.declared.values.Value.TheVariants as value
+use Rattle.dp_domain.specs.Ranges.{is_narrow_range}
 use Rattle.dp_law.specs.declared.pieces.Piece.{Piece}
 use Rattle.dp_law.specs.declared.pieces.Piece.TheVariants as piece
 use Rattle.dp_law.specs.declared.refusals.Refused.{Refused}
@@ -57,9 +58,9 @@ choice_of n first len least most p q u floor top low high = record {
 abbrev pub choice : ℕ → ℤ → ℤ → ℕ → ℕ → ℕ → ℤ → ℤ → ℕ → ℕ → Mechanism
 choice = choice_of all_draws first_weight
 
--- the range of the scores is not empty, from -2 ^ 61 to 2 ^ 61, and at most 65,535 wide
+-- the range of the scores has more than one number and at most 65,536, from -2 ^ 61 to 2 ^ 61
 abbrev pub is_score_range : ℤ → ℤ → Bool
-is_score_range floor top = int_le (neg_ℤ (pos (2 ^ 61))) floor && int_lt floor top && int_le top (pos (2 ^ 61)) && int_le (top -ℤ floor) (pos 65535)
+is_score_range floor top = int_lt floor top && is_narrow_range floor top
 
 -- the sum of the weights fits, and each cell's share leaves room for the rounding
 abbrev pub weights_fit : ℕ → ℕ → ℕ → ℕ → Bool

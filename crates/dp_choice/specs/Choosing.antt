@@ -1,7 +1,7 @@
 -- Weighted choice among the cells of a vector: with each step of a cell's score its weight grows by the ratio high / low.
 use Rattle.std.specs.Prelude.{ℕ, zero, suc, ◌*◌, ◌/◌, ℤ, ◌-ℤ◌, nat_abs, Bool, List, [], ◌∷◌, length, take, map, if◌then◌else◌, nat_le}
-use Rattle.std.specs.Int.{int_min, int_max}
 use Rattle.std.specs.List.{sum}
+use Rattle.dp_domain.specs.Ranges.{clamped}
 
 -- the first weight at the score 0, and with each step of the score the weight times high / low, rounded down
 unfoldable pub weight : ℕ → ℕ → ℕ → ℕ → ℕ
@@ -10,7 +10,7 @@ weight first low high (suc score) = weight first low high score * high / low
 
 -- how far a number is above the floor, after it is brought into the range from the floor to the top
 abbrev pub score : ℤ → ℤ → ℤ → ℕ
-score floor top z = nat_abs (int_min (int_max z floor) top -ℤ floor)
+score floor top z = nat_abs (clamped floor top z -ℤ floor)
 
 -- the weight of each cell's score
 unfoldable pub weights : ℕ → ℕ → ℕ → ℤ → ℤ → List ℤ → List ℕ

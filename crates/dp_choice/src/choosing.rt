@@ -2,10 +2,10 @@ ghost use Rattle.std.specs.Prelude.{◌≡◌, ◌≤◌, ◌<◌, ◌+◌, ◌-
 ghost use Rattle.std.specs.Option.{option_map};
 ghost use Rattle.std.specs.Result.{result_ok};
 ghost use Rattle.std.specs.List.{sum};
-ghost use Rattle.std.specs.Int.{int_min, int_max};
 ghost use Rattle.dp_count.specs.Faults.{HasCause};
 ghost use Rattle.dp_draws.specs.Taking.{take_draws};
 ghost use Rattle.dp_domain.specs.Domains.{Fits, Has};
+ghost use Rattle.dp_domain.specs.Ranges.{clamped};
 ghost use Rattle.dp_domain.proofs.Limits.{Fits-prop};
 ghost use Rattle.dp_domain.specs.declared.domains.Domain.TheVariants as domain;
 ghost use Rattle.dp_domain.specs.declared.values.Value.TheVariants as value;
@@ -17,10 +17,10 @@ ghost use Rattle.dp_choice.specs.Choice.{first_weight, all_draws, weight_table, 
 ghost use Rattle.dp_choice.specs.ChoicePrivacy.{HasRoom};
 
 use dp_count::{Failed, NoMemory, Shape};
-use dp_domain::{Cells, Domain, Metric, Value};
+use dp_domain::{Cells, Domain, Metric, Value, clamped, is_narrow_range};
 use dp_draws::Draws;
 use dp_law::{Answer, MakeFault, Measurement, Piece, ReleaseFault};
-use dp_num::{Past, Ratio};
+use dp_num::{MOST_UNITS, Past, Ratio};
 use std::alloc::Global;
 
 /// The bound of the draw.
@@ -28,15 +28,6 @@ const ALL_DRAWS: u64 = 1 << 62;
 
 /// The weight of the score 0.
 const FIRST_WEIGHT: u64 = 65_536;
-
-/// The greatest bound of the scores' range.
-const MOST: i64 = 1 << 61;
-
-/// The greatest score.
-const MOST_SCORE: i64 = 65_535;
-
-/// The greatest number of units of loss.
-const MOST_UNITS: u64 = 4_294_967_296;
 
 /// Weighted choice of a vector's cell, for the ratio p/q and u units. A cell's score is how far its number is above
 /// `floor` after it is brought into `floor`..=`top`. The score 0 has the weight 65,536, and with each step of the score
@@ -158,11 +149,11 @@ impl Choice {
 
     /// The number of the range of the scores that is nearest to `z`.
     fn nearest(&self, z: i64) -> i64
-        ensures value { result ≡ int_min (int_max z self.now.floor) self.now.top }
+        ensures value { result ≡ clamped self.now.floor self.now.top z }
         ensures least { self.now.floor ≤ℤ result }
         ensures greatest { result ≤ℤ self.now.top }
     {
-        z.max(self.floor).min(self.top)
+        clamped(&self.floor, &self.top, &z)
     }
 
     /// The sum of the weights of the cells' scores.
@@ -266,7 +257,7 @@ fn width(floor: &i64, top: &i64) -> u64
 fn is_score_range(floor: &i64, top: &i64) -> bool
     ensures { result ≡ is_score_range floor.now top.now }
 {
-    -MOST <= *floor && *floor < *top && *top <= MOST && *top - *floor <= MOST_SCORE
+    *floor < *top && is_narrow_range(floor, top)
 }
 
 /// Whether the sum of the weights is at most 2^62 and each share leaves room for its rounding.

@@ -1,10 +1,12 @@
 pub mod Distance
+pub mod EdgeTests
 pub mod Equality
 pub mod Examples
 pub mod Groups
 pub mod Growth
 pub mod Histograms
 pub mod Limits
+pub mod NarrowRanges
 pub mod Occurrences
 pub mod Places
 pub mod WeightedSums

@@ -1,9 +1,17 @@
 -- Which numbers a domain may have, and which values a domain has.
-use Rattle.std.specs.Prelude.{◌≡◌, ℕ, ℤ, pos, neg_ℤ, ◌≤ℤ◌, ◌≤◌, ◌<◌, ◌^◌, length, Option, Some, None, IfSome, All}
+use Rattle.std.specs.Prelude.{◌≡◌, ℕ, ℤ, pos, neg_ℤ, ◌≤ℤ◌, ◌≤◌, ◌<◌, ◌^◌, ◌&&◌, Bool, nat_le, length, Option, Some, None, IfSome, All}
 use Rattle.dp_domain.specs.declared.domains.Domain.{Domain}
 use Rattle.dp_domain.specs.declared.domains.Domain.TheVariants as domain
 use Rattle.dp_domain.specs.declared.values.Value.{Value}
 use Rattle.dp_domain.specs.declared.values.Value.TheVariants as value
+
+-- the numbers of a list are from -item_limit to item_limit
+abbrev pub item_limit : ℕ
+item_limit = 2 ^ 31
+
+-- a number alone, and each cell of a vector, is from -number_limit to number_limit
+abbrev pub number_limit : ℕ
+number_limit = 2 ^ 61
 
 -- a number from lo to hi
 abbrev pub IsBetween : ℤ → ℤ → ℤ → Type 0
@@ -22,16 +30,20 @@ FitsSize (Some n) = (1 ≤ n) × (n ≤ 2 ^ 20)
 abbrev pub FewCategories : ℕ → Type 0
 FewCategories n = (2 ≤ n) × (n ≤ 1024)
 
+-- from 1 to 1,023, so that with one more it is a number of categories
+abbrev pub few_and_one : ℕ → Bool
+few_and_one n = nat_le 1 n && nat_le n 1023
+
 -- the domain's numbers are within their limits
 abbrev pub Fits : Domain → Type 0
 Fits (domain.Rows columns) = (1 ≤ columns) × (columns ≤ 64)
 Fits domain.Texts = Unit {0}
-Fits (domain.OptInts lo hi) = IsRange (2 ^ 31) lo hi
-Fits (domain.Ints lo hi size) = IsRange (2 ^ 31) lo hi × FitsSize size
+Fits (domain.OptInts lo hi) = IsRange item_limit lo hi
+Fits (domain.Ints lo hi size) = IsRange item_limit lo hi × FitsSize size
 Fits (domain.Cats n size) = FewCategories n × FitsSize size
-Fits (domain.Int lo hi) = IsRange (2 ^ 61) lo hi
+Fits (domain.Int lo hi) = IsRange number_limit lo hi
 Fits (domain.Cat n) = FewCategories n
-Fits (domain.IntVec len lo hi) = FewCategories len × IsRange (2 ^ 61) lo hi
+Fits (domain.IntVec len lo hi) = FewCategories len × IsRange number_limit lo hi
 
 -- a length is the size, where one is given, and else at most 2 ^ 30
 abbrev pub HasSize : Option ℕ → ℕ → Type 0

@@ -1,7 +1,9 @@
 pub mod Distance
 pub mod DistanceLaws
 pub mod Domains
+pub mod Edges
 pub mod GroupLaws
 pub mod Metrics
+pub mod Ranges
 pub mod Sums
 pub mod Users

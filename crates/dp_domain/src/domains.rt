@@ -1,7 +1,8 @@
-ghost use Rattle.std.specs.Prelude.{◌≡◌, IsTrue, ◌↔◌, ◌≤◌, ◌<◌, ◌^◌, pos, neg_ℤ, ◌≤ℤ◌, length, All, IfSome};
-ghost use Rattle.dp_domain.specs.Domains.{Fits, Has, FitsSize, FewCategories, IsRange, IsBetween, HasSize};
+ghost use Rattle.std.specs.Prelude.{◌≡◌, IsTrue, ◌↔◌, ◌≤◌, ◌<◌, ◌^◌, length, All, IfSome};
+ghost use Rattle.dp_domain.specs.Domains.{Fits, Has, FitsSize, FewCategories, few_and_one, IsBetween, HasSize};
 
 use crate::lists::{Cats, Ints, OptInts, Rows, Texts};
+use crate::ranges::{is_item_range, is_number_range};
 use crate::values::Value;
 
 /// A set of values. Bounds are included. A list without a size has at most 2^30 elements.
@@ -13,7 +14,8 @@ pub enum Domain {
     Texts,
     /// Lists of numbers from `lo` to `hi`, some of them missing. Bounds are from -2^31 to 2^31.
     OptInts { lo: i64, hi: i64 },
-    /// Lists of numbers from `lo` to `hi`, of the size if one is given, from 1 to 2^20. Bounds are from -2^31 to 2^31.
+    /// Lists of numbers from `lo` to `hi`, of the size if one is given, from 1 to 2^20. Bounds are
+    /// from -2^31 to 2^31.
     Ints { lo: i64, hi: i64, size: Option<u32> },
     /// Lists of categories below `n`, from 2 to 1,024, of the size if one is given, from 1 to 2^20.
     Cats { n: u32, size: Option<u32> },
@@ -32,10 +34,6 @@ const MOST_SIZE: u32 = 1 << 20;
 const MOST_COLUMNS: u32 = 64;
 
 const MOST_CATEGORIES: u32 = 1024;
-
-const ITEM_LIMIT: i64 = 1 << 31;
-
-const NUMBER_LIMIT: i64 = 1 << 61;
 
 impl Domain {
     /// Whether the domain's numbers are within their limits and no lower bound is above its upper bound.
@@ -109,18 +107,6 @@ impl Domain {
     }
 }
 
-fn is_item_range(lo: &i64, hi: &i64) -> bool
-    ensures { IsTrue result ↔ IsRange (2 ^ 31) lo.now hi.now }
-{
-    -ITEM_LIMIT <= *lo && *lo <= *hi && *hi <= ITEM_LIMIT
-}
-
-fn is_number_range(lo: &i64, hi: &i64) -> bool
-    ensures { IsTrue result ↔ IsRange (2 ^ 61) lo.now hi.now }
-{
-    -NUMBER_LIMIT <= *lo && *lo <= *hi && *hi <= NUMBER_LIMIT
-}
-
 fn same_range(lo: &i64, hi: &i64, other_lo: &i64, other_hi: &i64) -> bool
     ensures { IsTrue result ↔ ((lo.now ≡ other_lo.now) × (hi.now ≡ other_hi.now)) }
 {
@@ -140,6 +126,13 @@ fn few_categories(n: u32) -> bool
     ensures { IsTrue result ↔ FewCategories n }
 {
     2 <= n && n <= MOST_CATEGORIES
+}
+
+/// Whether the number is from 1 to 1,023, so that with one more it is a number of categories.
+pub fn few_and_one(n: u64) -> bool
+    ensures { result ≡ few_and_one n }
+{
+    1 <= n && n < u64::from(MOST_CATEGORIES)
 }
 
 fn has_size(size: &Option<u32>, len: u64) -> bool

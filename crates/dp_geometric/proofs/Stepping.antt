@@ -3,7 +3,8 @@ use Rattle.std.proofs.Common.{◌≡◌, ℕ, ◌+◌, ℤ, ◌+ℤ◌, List, �
 use Rattle.std.specs.Option.{option_map}
 use Rattle.dp_draws.specs.Taking.{Turn, put_first, take_draws}
 use Rattle.dp_draws.proofs.Taking.{take_draws-some, take_draws-fails}
-use Rattle.dp_geometric.specs.OneCell.{width, cell_shape, leading_run, noise, clamp, cell_out}
+use Rattle.dp_domain.specs.Ranges.{clamped}
+use Rattle.dp_geometric.specs.OneCell.{width, cell_shape, leading_run, noise, cell_out}
 
 -- the first draw fails
 pub first-fails : {R : Type 0} (out : List ℕ → R) (step : List ℕ → ℕ → Turn) (state next : List ℕ) (lo hi : ℤ) (low high : ℕ) → step state (high + low) ≡ record { draw = None; next = next } →
@@ -32,15 +33,15 @@ pub run-fails : {R : Type 0} (out : List ℕ → R) (step : List ℕ → ℕ →
 run-fails out step state next lo hi low high first runs wide turned failed =
     run-none out low first (take_draws step next (replicate runs high)).draws failed ∙ sym (ap (λ t. option_map out t.draws) (first-taken step state next lo hi low high first runs wide turned))
 
-run-some : (lo hi v answer : ℤ) (low high first run : ℕ) (rest : Option (List ℕ)) → Some run ≡ option_map (leading_run low) rest → answer ≡ clamp lo hi (clamp lo hi v +ℤ noise low high first run) → Some answer ≡ option_map (cell_out lo hi low high v) (option_map (λ draws. first ∷ draws) rest)
+run-some : (lo hi v answer : ℤ) (low high first run : ℕ) (rest : Option (List ℕ)) → Some run ≡ option_map (leading_run low) rest → answer ≡ clamped lo hi (clamped lo hi v +ℤ noise low high first run) → Some answer ≡ option_map (cell_out lo hi low high v) (option_map (λ draws. first ∷ draws) rest)
 unfolding cell_out
 run-some lo hi v answer low high first run None counted given = absurd (cc)
 run-some lo hi v answer low high first run (Some draws) counted given =
     let same : run ≡ leading_run low draws = cc in
-    ap Some (given ∙ ap (λ r. clamp lo hi (clamp lo hi v +ℤ noise low high first r)) same)
+    ap Some (given ∙ ap (λ r. clamped lo hi (clamped lo hi v +ℤ noise low high first r)) same)
 
 -- all draws are taken
 pub run-answers : (step : List ℕ → ℕ → Turn) (state next : List ℕ) (lo hi v answer : ℤ) (low high first runs run : ℕ) → runs ≡ width lo hi → step state (high + low) ≡ record { draw = Some first; next = next } → Some run ≡ option_map (leading_run low) (take_draws step next (replicate runs high)).draws →
-    answer ≡ clamp lo hi (clamp lo hi v +ℤ noise low high first run) → Some answer ≡ option_map (cell_out lo hi low high v) (take_draws step state (cell_shape lo hi low high)).draws
+    answer ≡ clamped lo hi (clamped lo hi v +ℤ noise low high first run) → Some answer ≡ option_map (cell_out lo hi low high v) (take_draws step state (cell_shape lo hi low high)).draws
 run-answers step state next lo hi v answer low high first runs run wide turned counted given =
     run-some lo hi v answer low high first run (take_draws step next (replicate runs high)).draws counted given ∙ sym (ap (λ t. option_map (cell_out lo hi low high v) t.draws) (first-taken step state next lo hi low high first runs wide turned))

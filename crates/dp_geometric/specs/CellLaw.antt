@@ -2,7 +2,8 @@
 use Rattle.std.specs.Prelude.{◌≡◌, ℕ, ◌+◌, ◌-◌, ◌*◌, ◌^◌, ◌≤◌, ℤ, ◌-ℤ◌, ◌<ℤ◌, nat_abs, ◌⊎◌}
 use Rattle.std.specs.Ordering.{int_eq}
 use Rattle.dp_count.specs.DrawLists.{count}
-use Rattle.dp_geometric.specs.OneCell.{width, cell_shape, clamp, cell_out}
+use Rattle.dp_domain.specs.Ranges.{clamped}
+use Rattle.dp_geometric.specs.OneCell.{width, cell_shape, cell_out}
 
 -- how many draw lists give the answer a on the value v
 unfoldable pub ways : ℤ → ℤ → ℕ → ℕ → ℤ → ℤ → ℕ
@@ -14,7 +15,7 @@ distance x y = nat_abs (x -ℤ y)
 
 -- how far the answer is from the clamped value
 abbrev pub away : ℤ → ℤ → ℤ → ℤ → ℕ
-away lo hi v a = distance (clamp lo hi v) a
+away lo hi v a = distance (clamped lo hi v) a
 
 -- the numbers of draw lists: between the ends, at the two ends, where there is one answer alone, and outside
 pub record CellCounts (lo hi : ℤ) (low high : ℕ) : Type 0 where

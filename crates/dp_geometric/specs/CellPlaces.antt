@@ -5,7 +5,8 @@ use Rattle.std.proofs.lemmas.Int.{ints, clamps}
 use Rattle.std.proofs.lemmas.Bool.Decides.{nat_tests, Decides-int_eq, Decides-eqb, same_from_decides}
 use Rattle.dp_count.proofs.Counting.{count-never}
 use Rattle.dp_count.proofs.Places.{Walks, up_to, down_to, share, between, count-places}
-use Rattle.dp_geometric.specs.OneCell.{width, cell_shape, leading_run, noise, clamp, cell_out}
+use Rattle.dp_domain.specs.Ranges.{clamped}
+use Rattle.dp_geometric.specs.OneCell.{width, cell_shape, leading_run, noise, cell_out}
 use Rattle.dp_geometric.specs.CellLaw.{ways, distance, away}
 
 -- the noise of each kind of first draw
@@ -25,10 +26,10 @@ noise-down p r x k h =
     rw (e, f) refl
 
 -- a clamped number is in the range
-clamp-least : (lo hi z : ℤ) → lo ≤ℤ hi → lo ≤ℤ clamp lo hi z
+clamp-least : (lo hi z : ℤ) → lo ≤ℤ hi → lo ≤ℤ clamped lo hi z
 clamp-least lo hi z h = omega (arith, ints, clamps)
 
-clamp-greatest : (lo hi z : ℤ) → lo ≤ℤ hi → clamp lo hi z ≤ℤ hi
+clamp-greatest : (lo hi z : ℤ) → lo ≤ℤ hi → clamped lo hi z ≤ℤ hi
 clamp-greatest lo hi z h = omega (arith, ints, clamps)
 
 -- how far a number is above lo
@@ -42,13 +43,13 @@ width-place : (lo hi z : ℤ) → lo ≤ℤ z → z ≤ℤ hi → place lo z ≤
 width-place lo hi z h k = omega (arith, ints)
 
 -- where the walks end, as numbers
-clamp-stays : (lo hi : ℤ) (n t : ℕ) → hi ≡ lo +ℤ pos n → t ≤ n → clamp lo hi (lo +ℤ pos t +ℤ pos 0) ≡ lo +ℤ pos t
+clamp-stays : (lo hi : ℤ) (n t : ℕ) → hi ≡ lo +ℤ pos n → t ≤ n → clamped lo hi (lo +ℤ pos t +ℤ pos 0) ≡ lo +ℤ pos t
 clamp-stays lo hi n t e h = omega (arith, ints, clamps)
 
-clamp-up : (lo hi : ℤ) (n t k : ℕ) → hi ≡ lo +ℤ pos n → t ≤ n → clamp lo hi (lo +ℤ pos t +ℤ pos (1 + k)) ≡ lo +ℤ pos (up_to n t k)
+clamp-up : (lo hi : ℤ) (n t k : ℕ) → hi ≡ lo +ℤ pos n → t ≤ n → clamped lo hi (lo +ℤ pos t +ℤ pos (1 + k)) ≡ lo +ℤ pos (up_to n t k)
 clamp-up lo hi n t k e h = omega (arith, ints, clamps)
 
-clamp-down : (lo hi : ℤ) (n t k : ℕ) → hi ≡ lo +ℤ pos n → t ≤ n → clamp lo hi (lo +ℤ pos t +ℤ neg_ℤ (pos (1 + k))) ≡ lo +ℤ pos (down_to t k)
+clamp-down : (lo hi : ℤ) (n t k : ℕ) → hi ≡ lo +ℤ pos n → t ≤ n → clamped lo hi (lo +ℤ pos t +ℤ neg_ℤ (pos (1 + k))) ≡ lo +ℤ pos (down_to t k)
 clamp-down lo hi n t k e h = omega (arith, ints, clamps)
 
 -- two numbers are equal exactly where their places are
@@ -68,21 +69,21 @@ same_place lo z a x b e f =
 -- the walks of one cell, for an answer at the place b
 cell_walks : (lo hi v a : ℤ) (p r b : ℕ) → lo ≤ℤ hi → a ≡ lo +ℤ pos b →
     Walks r p (λ draws. int_eq (cell_out lo hi p (p + r) v draws) a)
-    (λ _. eqb (place lo (clamp lo hi v)) b)
-    (λ run. eqb (up_to (width lo hi) (place lo (clamp lo hi v)) (leading_run p run)) b)
-    (λ run. eqb (down_to (place lo (clamp lo hi v)) (leading_run p run)) b)
+    (λ _. eqb (place lo (clamped lo hi v)) b)
+    (λ run. eqb (up_to (width lo hi) (place lo (clamped lo hi v)) (leading_run p run)) b)
+    (λ run. eqb (down_to (place lo (clamped lo hi v)) (leading_run p run)) b)
 unfolding cell_out
 cell_walks lo hi v a p r b h e =
     let n = width lo hi in
-    let z = clamp lo hi v in
+    let z = clamped lo hi v in
     let t = place lo z in
     let top : hi ≡ lo +ℤ pos n = place-is lo hi h in
     let start : z ≡ lo +ℤ pos t = place-is lo z (clamp-least lo hi v h) in
     let few : t ≤ n = width-place lo hi z (clamp-least lo hi v h) (clamp-greatest lo hi v h) in
     record {
-      stays = λ x run i. same_place lo _ a t b (ap (λ m. clamp lo hi (z +ℤ m)) (noise-stays p r x (leading_run p run) i) ∙ ap (λ y. clamp lo hi (y +ℤ pos 0)) start ∙ clamp-stays lo hi n t top few) e;
-      goes_up = λ x run i. same_place lo _ a (up_to n t (leading_run p run)) b (ap (λ m. clamp lo hi (z +ℤ m)) (noise-up p r x (leading_run p run) i) ∙ ap (λ y. clamp lo hi (y +ℤ pos (1 + leading_run p run))) start ∙ clamp-up lo hi n t (leading_run p run) top few) e;
-      goes_down = λ x run i. same_place lo _ a (down_to t (leading_run p run)) b (ap (λ m. clamp lo hi (z +ℤ m)) (noise-down p r x (leading_run p run) i) ∙ ap (λ y. clamp lo hi (y +ℤ neg_ℤ (pos (1 + leading_run p run)))) start ∙ clamp-down lo hi n t (leading_run p run) top few) e;
+      stays = λ x run i. same_place lo _ a t b (ap (λ m. clamped lo hi (z +ℤ m)) (noise-stays p r x (leading_run p run) i) ∙ ap (λ y. clamped lo hi (y +ℤ pos 0)) start ∙ clamp-stays lo hi n t top few) e;
+      goes_up = λ x run i. same_place lo _ a (up_to n t (leading_run p run)) b (ap (λ m. clamped lo hi (z +ℤ m)) (noise-up p r x (leading_run p run) i) ∙ ap (λ y. clamped lo hi (y +ℤ pos (1 + leading_run p run))) start ∙ clamp-up lo hi n t (leading_run p run) top few) e;
+      goes_down = λ x run i. same_place lo _ a (down_to t (leading_run p run)) b (ap (λ m. clamped lo hi (z +ℤ m)) (noise-down p r x (leading_run p run) i) ∙ ap (λ y. clamped lo hi (y +ℤ neg_ℤ (pos (1 + leading_run p run)))) start ∙ clamp-down lo hi n t (leading_run p run) top few) e;
     }
 
 between-places : (lo z a : ℤ) → lo ≤ℤ z → lo ≤ℤ a → between (place lo z) (place lo a) ≡ distance z a
@@ -94,7 +95,7 @@ pub ways-share : (lo hi v a : ℤ) (p r : ℕ) → lo ≤ℤ hi → lo ≤ℤ a 
 unfolding ways
 ways-share lo hi v a p r h k l =
     let n = width lo hi in
-    let z = clamp lo hi v in
+    let z = clamped lo hi v in
     let t = place lo z in
     let few : t ≤ n = width-place lo hi z (clamp-least lo hi v h) (clamp-greatest lo hi v h) in
     let far : between t (place lo a) ≡ away lo hi v a = between-places lo z a (clamp-least lo hi v h) k in

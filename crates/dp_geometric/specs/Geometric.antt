@@ -1,5 +1,5 @@
 -- Truncated geometric noise on a number, and on each cell of a vector.
-use Rattle.std.specs.Prelude.{ℕ, zero, suc, ◌*◌, ◌^◌, ◌&&◌, ℤ, pos, neg_ℤ, ◌-ℤ◌, int_le, Bool, true, false, List, [], ◌∷◌, ◌++◌, map, Option, Some, None, Result, Ok, Err, if◌then◌else◌}
+use Rattle.std.specs.Prelude.{ℕ, zero, suc, ◌*◌, ℤ, Bool, true, false, List, [], ◌∷◌, ◌++◌, map, Option, Some, None, Result, Ok, Err, if◌then◌else◌}
 use Rattle.dp_count.specs.Slots.{Slot, replies}
 use Rattle.dp_num.specs.Limits.{capped, powers}
 use Rattle.dp_domain.specs.declared.domains.Domain.{Domain}
@@ -8,6 +8,7 @@ use Rattle.dp_domain.specs.declared.metrics.Metric.{Metric}
 use Rattle.dp_domain.specs.declared.metrics.Metric.TheVariants as metrics
 use Rattle.dp_domain.specs.declared.values.Value.{Value}
 use Rattle.dp_domain.specs.declared.values.Value.TheVariants as value
+use Rattle.dp_domain.specs.Ranges.{is_narrow_range}
 use Rattle.dp_law.specs.declared.pieces.Piece.{Piece}
 use Rattle.dp_law.specs.declared.pieces.Piece.TheVariants as piece
 use Rattle.dp_law.specs.declared.refusals.Refused.{Refused}
@@ -62,14 +63,10 @@ geometric input p q u lo hi low high = record {
   privacy_map = λ d. capped (u * d);
 }
 
--- the answers' bounds are in order, from -2 ^ 61 to 2 ^ 61, and at most 65,535 apart
-abbrev pub is_answer_range : ℤ → ℤ → Bool
-is_answer_range lo hi = int_le (neg_ℤ (pos (2 ^ 61))) lo && int_le lo hi && int_le hi (pos (2 ^ 61)) && int_le (hi -ℤ lo) (pos 65535)
-
 -- the powers are there, and the bounds of the answers are in range
 abbrev pub geometric_with : Domain → ℕ → ℕ → ℕ → ℤ → ℤ → Option (ℕ × ℕ) → Result Mechanism Refused
 geometric_with input p q u lo hi None = Err refused.Bound
-geometric_with input p q u lo hi (Some both) = if is_answer_range lo hi
+geometric_with input p q u lo hi (Some both) = if is_narrow_range lo hi
     then Ok (geometric input p q u lo hi both.0 both.1)
     else Err refused.Bound
 

@@ -1,7 +1,7 @@
 -- One cell of truncated geometric noise, whose numbers lo, hi, low and high are the least and the greatest answer and
 -- the two numbers of the ratio low / high.
 use Rattle.std.specs.Prelude.{ℕ, ◌+◌, ◌-◌, ℤ, pos, neg_ℤ, ◌+ℤ◌, ◌-ℤ◌, nat_abs, List, [], ◌∷◌, replicate, if◌then◌else◌, nat_lt}
-use Rattle.std.specs.Int.{int_min, int_max}
+use Rattle.dp_domain.specs.Ranges.{clamped}
 pub use Rattle.dp_count.specs.DrawLists.{leading_run}
 
 -- how many answers there are beside the least one
@@ -18,11 +18,7 @@ noise low high first run = if nat_lt first (high - low) then pos 0
     else if nat_lt first high then pos (1 + run)
     else neg_ℤ (pos (1 + run))
 
--- the number from lo to hi that is nearest to z
-abbrev pub clamp : ℤ → ℤ → ℤ → ℤ
-clamp lo hi z = int_min (int_max z lo) hi
-
 -- the answer on the value v, from a draw list of the shape: the clamped value with its noise, clamped
 unfoldable pub cell_out : ℤ → ℤ → ℕ → ℕ → ℤ → List ℕ → ℤ
-cell_out lo hi low high v [] = clamp lo hi v
-cell_out lo hi low high v (first ∷ run) = clamp lo hi (clamp lo hi v +ℤ noise low high first (leading_run low run))
+cell_out lo hi low high v [] = clamped lo hi v
+cell_out lo hi low high v (first ∷ run) = clamped lo hi (clamped lo hi v +ℤ noise low high first (leading_run low run))

@@ -3,11 +3,13 @@ ghost use Rattle.std.specs.Option.{option_map};
 ghost use Rattle.std.specs.Result.{result_ok};
 ghost use Rattle.dp_count.specs.Faults.{HasCause};
 ghost use Rattle.dp_draws.specs.Taking.{take_draws};
-ghost use Rattle.dp_geometric.specs.OneCell.{cell_shape, cell_out, noise, clamp, width};
+ghost use Rattle.dp_domain.specs.Ranges.{clamped};
+ghost use Rattle.dp_geometric.specs.OneCell.{cell_shape, cell_out, noise, width};
 ghost use Rattle.dp_geometric.specs.CellLaw.{CellCounts, CellPrivate};
 
 use crate::runs::leading_run;
 use dp_count::Failed;
+use dp_domain::clamped;
 use dp_draws::Draws;
 
 /// One cell of truncated geometric noise: its answers are the whole numbers from `lo` to `hi`. A value outside them
@@ -94,18 +96,18 @@ impl Cell {
     fn settle(&self, v: i64, noise: i64) -> i64
         requires least { neg_ℤ (pos 65536) ≤ℤ noise }
         requires greatest { noise ≤ℤ pos 65536 }
-        ensures { result ≡ clamp self.now.lo self.now.hi (clamp self.now.lo self.now.hi v +ℤ noise) }
+        ensures { result ≡ clamped self.now.lo self.now.hi (clamped self.now.lo self.now.hi v +ℤ noise) }
     {
         self.nearest(self.nearest(v) + noise)
     }
 
     /// The answer that is nearest to `z`.
     fn nearest(&self, z: i64) -> i64
-        ensures value { result ≡ clamp self.now.lo self.now.hi z }
+        ensures value { result ≡ clamped self.now.lo self.now.hi z }
         ensures least { self.now.lo ≤ℤ result }
         ensures greatest { result ≤ℤ self.now.hi }
     {
-        z.max(self.lo).min(self.hi)
+        clamped(&self.lo, &self.hi, &z)
     }
 }
 

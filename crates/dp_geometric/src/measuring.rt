@@ -1,4 +1,4 @@
-ghost use Rattle.std.specs.Prelude.{◌≡◌, ◌≤◌, ◌+◌, ◌*◌, ◌^◌, ◌≤ℤ◌, ◌↔◌, pos, neg_ℤ, ◌-ℤ◌, [], true, None, length, vec_capacity, IfOk, IsTrue};
+ghost use Rattle.std.specs.Prelude.{◌≡◌, ◌≤◌, ◌+◌, ◌*◌, ◌^◌, ◌↔◌, pos, [], true, None, length, vec_capacity, IfOk, IsTrue};
 ghost use Rattle.std.specs.Option.{option_map};
 ghost use Rattle.std.specs.Result.{result_ok};
 ghost use Rattle.dp_count.specs.Faults.{HasCause};
@@ -9,21 +9,15 @@ ghost use Rattle.dp_domain.specs.declared.values.Value.TheVariants as value;
 ghost use Rattle.dp_law.specs.Making.{Makes};
 ghost use Rattle.dp_law.specs.Releasing.{Released, ReleaseCause, MemoryFirst};
 ghost use Rattle.dp_geometric.specs.OneCell.{width, cell_shape};
-ghost use Rattle.dp_geometric.specs.Geometric.{cells_shape, cells_out, add_noise, is_numeric, numeric_metric, kind_refusal, is_answer_range, geometric_from};
+ghost use Rattle.dp_geometric.specs.Geometric.{cells_shape, cells_out, add_noise, is_numeric, numeric_metric, kind_refusal, geometric_from};
 
 use crate::cells::Cell;
 use dp_count::{Failed, NoMemory, Shape};
-use dp_domain::{Cells, Domain, Metric, Value};
+use dp_domain::{Cells, Domain, Metric, Value, is_narrow_range};
 use dp_draws::Draws;
 use dp_law::{Answer, Measurement, Piece, Refused, ReleaseFault};
 use dp_num::{Past, Ratio, mul_units};
 use std::alloc::Global;
-
-/// The greatest bound of an answer.
-const MOST: i64 = 1 << 61;
-
-/// The greatest difference of two answers.
-const MOST_WIDTH: i64 = 65_535;
 
 /// Truncated geometric noise on a number, or on each cell of a vector, for the ratio p/q and u units: each step of
 /// distance costs u units of loss.
@@ -62,7 +56,7 @@ impl Geometric {
         let Ok((low, high)) = ratio.powers(u) else {
             return Err(Refused::Bound);
         };
-        if !is_answer_range(&lo, &hi) {
+        if !is_narrow_range(&lo, &hi) {
             return Err(Refused::Bound);
         }
         Ok(Geometric {
@@ -146,13 +140,6 @@ fn kind_refusal(domain: Domain, metric: Metric) -> Option<Refused>
         (Domain::Int { .. } | Domain::IntVec { .. }, _) => Some(Refused::Metric),
         _ => Some(Refused::Kind),
     }
-}
-
-/// Whether the answers' bounds are in order, from -2^61 to 2^61, and at most 65,535 apart.
-fn is_answer_range(lo: &i64, hi: &i64) -> bool
-    ensures { result ≡ is_answer_range lo.now hi.now }
-{
-    -MOST <= *lo && *lo <= *hi && *hi <= MOST && *hi - *lo <= MOST_WIDTH
 }
 
 /// How many draws one cell takes.

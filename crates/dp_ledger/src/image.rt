@@ -3,13 +3,10 @@ ghost use Rattle.std.specs.Int.{w32, w64};
 ghost use Rattle.dp_ledger.specs.Image.{number_at, entry_at, is_open, other, counted, greatest, current_of, is_of, ledger_total, current_slot, place_of, new_image};
 
 use crate::slot::Slot;
-use dp_num::Ratio;
+use dp_num::{MOST_UNITS, Ratio};
 
 /// How many bytes an image has.
 pub(crate) const SIZE: usize = 26;
-
-/// The greatest total of a ledger.
-pub(crate) const MOST: u64 = 4_294_967_296;
 
 /// What a slot holds.
 #[derive(Clone, Copy, Debug)]
@@ -31,7 +28,7 @@ impl Entry {
     fn counted(self) -> Option<u64>
         ensures { result ≡ counted self }
     {
-        if self.is_open() && self.total <= MOST {
+        if self.is_open() && self.total <= MOST_UNITS {
             return Some(self.total);
         }
         None

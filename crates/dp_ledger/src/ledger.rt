@@ -4,11 +4,11 @@ ghost use Rattle.dp_count.specs.Faults.{Rose, Still};
 ghost use Rattle.dp_ledger.specs.Disk.{Only, LeavesOnly};
 ghost use Rattle.dp_ledger.specs.Image.{ledger_total, new_image};
 
-use crate::image::{MOST, SIZE, new_image, read_image};
+use crate::image::{SIZE, new_image, read_image};
 use crate::settle::{look, settle};
 use crate::slot::Slot;
 use crate::{ChargeFault, CreateFault, Disk, OpenLedgerFault};
-use dp_num::Ratio;
+use dp_num::{MOST_UNITS, Ratio};
 
 /// A total of units on a disk, which it does not hold: the ratio, the total, at most 2^32, which slot is current,
 /// whether the other slot's gate is open, and whether it is closed.
@@ -163,7 +163,7 @@ impl Ledger {
         if self.closed {
             return Err(ChargeFault::Closed);
         }
-        if self.total + by > MOST {
+        if self.total + by > MOST_UNITS {
             let total = self.total;
             return Err(ChargeFault::Full { total, by });
         }

@@ -1,9 +1,13 @@
 -- Numbers that are refused past a limit.
 use Rattle.std.specs.Prelude.{ℕ, ◌+◌, ◌^◌, ◌==◌, ◌&&◌, Bool, Option, Some, None, if◌then◌else◌, nat_lt, nat_le}
 
+-- the greatest number of units
+abbrev pub most_units : ℕ
+most_units = 2 ^ 32
+
 -- a number of units, at most 2^32
 abbrev pub capped : ℕ → Option ℕ
-capped n = if nat_le n (2 ^ 32) then Some n else None
+capped n = if nat_le n most_units then Some n else None
 
 -- the two numbers of a ratio p / q
 pub record Fraction : Type 0 where

@@ -10,4 +10,4 @@ mod units;
 pub use faults::{Bound, Past};
 pub use ratio::Ratio;
 pub use steps::Steps;
-pub use units::{add_units, ceil_div, floor_div, mul_units};
+pub use units::{MOST_UNITS, add_units, ceil_div, floor_div, mul_units};

@@ -5,8 +5,8 @@ ghost use Rattle.dp_num.specs.Limits.{capped};
 
 use crate::Past;
 
-/// The greatest number of units.
-const MOST_UNITS: u64 = 4_294_967_296;
+/// The greatest number of units, 2^32.
+pub const MOST_UNITS: u64 = 1 << 32;
 
 /// The sum of two numbers of units. `Past` comes exactly where it is greater than 2^32.
 pub fn add_units(a: u64, b: u64) -> Result<u64, Past>

@@ -1,5 +1,4 @@
 pub mod Comparing
-pub mod Edges
 pub mod Examples
 pub mod Ordered
 pub mod Places

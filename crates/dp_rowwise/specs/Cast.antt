@@ -1,7 +1,8 @@
 -- Casting texts to numbers.
-use Rattle.std.specs.Prelude.{ℕ, ℤ, pos, neg_ℤ, ◌^◌, ◌==◌, true, List, [], ◌∷◌, Option, Some, None, Result, Err, map, nat_le, option_map, option_and_then, if◌then◌else◌}
+use Rattle.std.specs.Prelude.{ℕ, ℤ, pos, neg_ℤ, ◌==◌, true, List, [], ◌∷◌, Option, Some, None, Result, Err, map, nat_le, option_map, option_and_then, if◌then◌else◌}
 use Rattle.dp_count.specs.Digits.{decimal}
 use Rattle.dp_num.specs.Limits.{capped}
+use Rattle.dp_domain.specs.Domains.{item_limit}
 use Rattle.dp_domain.specs.declared.domains.Domain.{Domain}
 use Rattle.dp_domain.specs.declared.domains.Domain.TheVariants as domain
 use Rattle.dp_domain.specs.declared.metrics.Metric.{Metric}
@@ -15,7 +16,7 @@ use Rattle.dp_law.specs.Making.{tested, is_symmetric}
 
 -- a number, where it is at most 2 ^ 31
 abbrev pub small : Option ℕ → Option ℕ
-small number = option_and_then (λ n. if nat_le n (2 ^ 31) then Some n else None) number
+small number = option_and_then (λ n. if nat_le n item_limit then Some n else None) number
 
 -- the number from -2 ^ 31 to 2 ^ 31 that an optional `-` and one or more digits spell
 unfoldable pub cast : List ℕ → Option ℤ
@@ -34,7 +35,7 @@ abbrev pub cast_mapping : Mapping
 cast_mapping = record {
   input_domain = domain.Texts;
   input_metric = metrics.Symmetric;
-  output_domain = domain.OptInts (neg_ℤ (pos (2 ^ 31))) (pos (2 ^ 31));
+  output_domain = domain.OptInts (neg_ℤ (pos item_limit)) (pos item_limit);
   output_metric = metrics.Symmetric;
   function = cast_value;
   stability_map = capped;

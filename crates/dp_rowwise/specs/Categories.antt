@@ -1,8 +1,9 @@
 -- Texts as categories.
-use Rattle.std.specs.Prelude.{ℕ, ◌+◌, ◌&&◌, Bool, true, List, [], ◌∷◌, None, Result, Err, map, length, nat_le, not}
+use Rattle.std.specs.Prelude.{ℕ, ◌+◌, ◌&&◌, Bool, true, List, [], ◌∷◌, None, Result, Err, map, length, not}
 use Rattle.std.specs.List.{list_any, position_or_len}
 use Rattle.dp_domain.specs.Distance.{text_eq}
 use Rattle.dp_num.specs.Limits.{capped}
+use Rattle.dp_domain.specs.Domains.{few_and_one}
 use Rattle.dp_domain.specs.declared.domains.Domain.{Domain}
 use Rattle.dp_domain.specs.declared.domains.Domain.TheVariants as domain
 use Rattle.dp_domain.specs.declared.metrics.Metric.{Metric}
@@ -28,10 +29,6 @@ unfoldable pub are_different : List (List ℕ) → Bool
 are_different [] = true
 are_different (text ∷ texts) = not (list_any (text_eq text) texts) && are_different texts
 
--- 1 to 1,023
-abbrev pub few_texts : ℕ → Bool
-few_texts n = nat_le 1 n && nat_le n 1023
-
 -- from texts to categories, one of each text of the list and one of all others
 abbrev pub categories_mapping : List (List ℕ) → Mapping
 categories_mapping texts = record {
@@ -45,5 +42,5 @@ categories_mapping texts = record {
 
 -- what categories are on a domain and a metric
 abbrev pub categories_from : List (List ℕ) → Domain → Metric → Result Mapping Refused
-categories_from texts domain.Texts metric = tested (is_symmetric metric) (few_texts (length texts) && are_different texts) (categories_mapping texts)
+categories_from texts domain.Texts metric = tested (is_symmetric metric) (few_and_one (length texts) && are_different texts) (categories_mapping texts)
 categories_from texts _ metric = Err refused.Kind

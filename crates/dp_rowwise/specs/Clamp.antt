@@ -1,7 +1,8 @@
 -- Clamping the numbers of a list.
-use Rattle.std.specs.Prelude.{ℕ, ℤ, pos, neg_ℤ, ◌^◌, ◌&&◌, Bool, Option, Result, Err, map, int_le}
-use Rattle.std.specs.Int.{int_min, int_max}
+use Rattle.std.specs.Prelude.{ℕ, ℤ, Option, Result, Err, map}
 use Rattle.dp_num.specs.Limits.{capped}
+use Rattle.dp_domain.specs.Domains.{item_limit}
+use Rattle.dp_domain.specs.Ranges.{is_range, clamped}
 use Rattle.dp_domain.specs.declared.domains.Domain.{Domain}
 use Rattle.dp_domain.specs.declared.domains.Domain.TheVariants as domain
 use Rattle.dp_domain.specs.declared.metrics.Metric.{Metric}
@@ -12,18 +13,10 @@ use Rattle.dp_law.specs.declared.refusals.Refused.TheVariants as refused
 use Rattle.dp_law.specs.Mapping.{Mapping}
 use Rattle.dp_law.specs.Making.{tested, list_metric, is_list_metric}
 
--- the number, or the limit that it is past
-abbrev pub clamped : ℤ → ℤ → ℤ → ℤ
-clamped lo hi z = int_min (int_max z lo) hi
-
 -- each number clamped
 abbrev pub clamp_value : ℤ → ℤ → Value → Value
 clamp_value lo hi (value.Ints xs) = value.Ints (map (clamped lo hi) xs)
 clamp_value lo hi v = v
-
--- the limits are in order, and from -2 ^ 31 to 2 ^ 31
-abbrev pub are_limits : ℤ → ℤ → Bool
-are_limits lo hi = int_le (neg_ℤ (pos (2 ^ 31))) lo && int_le lo hi && int_le hi (pos (2 ^ 31))
 
 -- numbers from from_lo to from_hi to numbers from lo to hi, of the same size by the same metric
 abbrev pub clamp_mapping : ℤ → ℤ → ℤ → ℤ → Option ℕ → Mapping
@@ -38,5 +31,5 @@ clamp_mapping lo hi from_lo from_hi size = record {
 
 -- what clamping is on a domain and a metric
 abbrev pub clamp_from : ℤ → ℤ → Domain → Metric → Result Mapping Refused
-clamp_from lo hi (domain.Ints from_lo from_hi size) metric = tested (is_list_metric size metric) (are_limits lo hi) (clamp_mapping lo hi from_lo from_hi size)
+clamp_from lo hi (domain.Ints from_lo from_hi size) metric = tested (is_list_metric size metric) (is_range item_limit lo hi) (clamp_mapping lo hi from_lo from_hi size)
 clamp_from lo hi _ metric = Err refused.Kind

@@ -11,12 +11,13 @@ use Rattle.dp_domain.specs.declared.values.Value.TheVariants as value
 use Rattle.dp_domain.proofs.Distance.{diff-map}
 use Rattle.dp_domain.proofs.Equality.{int_eq-decides}
 use Rattle.dp_domain.specs.Domains.{Fits, Has, IsBetween}
+use Rattle.dp_domain.specs.Ranges.{clamped}
 use Rattle.dp_domain.specs.Metrics.{Within}
 use Rattle.dp_law.specs.Making.{list_metric}
 use Rattle.dp_law.specs.Mapping.{IsStable}
 use Rattle.dp_law.proofs.Caps.{capped-same, capped-le}
 use Rattle.dp_law.proofs.Suits.{both-hold, ints-suit}
-use Rattle.dp_rowwise.specs.Clamp.{clamp_mapping, clamped, clamp_value}
+use Rattle.dp_rowwise.specs.Clamp.{clamp_mapping, clamp_value}
 
 clamped-between : (lo hi z : ℤ) → lo ≤ℤ hi → IsBetween lo hi (clamped lo hi z)
 clamped-between lo hi z h = (omega (arith, ints, clamps), omega (arith, ints, clamps))

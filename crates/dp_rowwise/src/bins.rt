@@ -1,22 +1,16 @@
-ghost use Rattle.std.specs.Prelude.{◌≡◌, ◌≤◌, ◌+◌, ◌↔◌, true, map, length, IfOk, IsTrue, int_lt};
-ghost use Rattle.std.specs.List.{list_all};
+ghost use Rattle.std.specs.Prelude.{◌≡◌, ◌≤◌, ◌+◌, true, map, length, IfOk};
 ghost use Rattle.dp_domain.specs.Domains.{Fits};
+ghost use Rattle.dp_domain.specs.Edges.{edges_at_most, is_rising};
 ghost use Rattle.dp_domain.specs.declared.domains.Domain.TheVariants as domain;
 ghost use Rattle.dp_domain.proofs.Limits.{Fits-prop};
 ghost use Rattle.dp_law.specs.Making.{Makes};
-ghost use Rattle.dp_rowwise.specs.Bins.{bin, few_edges, is_limited, is_rising, rises_from, are_edges, bins_from};
+ghost use Rattle.dp_rowwise.specs.Bins.{bins_from};
 
 use dp_count::NoMemory;
-use dp_domain::{Cats, Domain, Metric, Value};
+use dp_domain::{Cats, Domain, ITEM_LIMIT, Metric, Value, are_edges, edges_at_most};
 use dp_law::{Refused, Transformation, is_list_metric, list_metric};
 use dp_num::Past;
 use std::alloc::Global;
-
-/// The greatest number of edges.
-const MOST_EDGES: usize = 1_023;
-
-/// The greatest edge.
-const MOST: i64 = 2_147_483_648;
 
 /// Gives for each number how many edges are at most it. It takes `Ints` without a size by `Symmetric` or with one by
 /// `ChangeOne`, and gives `Cats` of the same size by the same metric. The work for each number is logarithmic in the
@@ -46,7 +40,7 @@ impl Bins {
         if !is_list_metric(size, metric) {
             return Err(Refused::Metric);
         }
-        if !are_edges(edges.as_slice()) {
+        if !are_edges(&ITEM_LIMIT, edges.as_slice()) {
             return Err(Refused::Bound);
         }
         Ok(Bins {
@@ -106,69 +100,12 @@ impl Transformation for Bins {
 fn bin_all(alloc: Global, edges: &[i64], numbers: &[i64]) -> Result<Vec<u32>, NoMemory>
     requires few { length edges.now ≤ 1023 }
     requires rising { is_rising edges.now ≡ true }
-    ensures { IfOk result (λ bins. bins.items ≡ map (bin edges.now) numbers.now) }
+    ensures { IfOk result (λ bins. bins.items ≡ map (edges_at_most edges.now) numbers.now) }
 {
     Ok(
         numbers
             .iter()
-            .map(|number| bin(edges, number))
+            .map(|number| edges_at_most(edges, number))
             .collect(alloc)?,
     )
-}
-
-/// How many edges are at most the number.
-fn bin(edges: &[i64], number: &i64) -> u32
-    requires few { length edges.now ≤ 1023 }
-    requires rising { is_rising edges.now ≡ true }
-    ensures { result ≡ bin edges.now number.now }
-{
-    edges.partition_point(|edge| *edge <= *number) as u32
-}
-
-/// Whether there are 1 to 1,023 strictly rising edges, each from -2^31 to 2^31.
-fn are_edges(edges: &[i64]) -> bool
-    ensures { result ≡ are_edges edges.now }
-{
-    few_edges(edges.len()) && all_limited(edges) && is_rising(edges)
-}
-
-/// Whether the number of edges is from 1 to 1,023.
-fn few_edges(len: usize) -> bool
-    ensures { result ≡ few_edges len }
-{
-    1 <= len && len <= MOST_EDGES
-}
-
-/// Whether each edge is from -2^31 to 2^31.
-fn all_limited(edges: &[i64]) -> bool
-    ensures { result ≡ list_all is_limited edges.now }
-{
-    edges.iter().all(|edge| is_limited(edge))
-}
-
-/// Whether the number is from -2^31 to 2^31.
-fn is_limited(edge: &i64) -> bool
-    ensures { result ≡ is_limited edge.now }
-{
-    -MOST <= *edge && *edge <= MOST
-}
-
-/// Whether each edge is below the next.
-fn is_rising(edges: &[i64]) -> bool
-    ensures { result ≡ is_rising edges.now }
-{
-    let Some((first, rest)) = edges.split_first() else {
-        return true;
-    };
-    rises_from(first, rest)
-}
-
-/// Whether each number is below the next, the first one above the edge.
-fn rises_from(edge: &i64, edges: &[i64]) -> bool
-    ensures { result ≡ rises_from edge.now edges.now }
-{
-    match edges {
-        [] => true,
-        [next, rest @ ..] => *edge < *next && rises_from(next, rest),
-    }
 }

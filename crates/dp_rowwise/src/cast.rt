@@ -5,13 +5,10 @@ ghost use Rattle.dp_law.specs.Making.{Makes};
 ghost use Rattle.dp_rowwise.specs.Cast.{small, cast, cast_from};
 
 use dp_count::{NoMemory, decimal};
-use dp_domain::{Domain, Metric, OptInts, Text, Texts, Value};
+use dp_domain::{Domain, ITEM_LIMIT, Metric, OptInts, Text, Texts, Value};
 use dp_law::{Refused, Transformation};
 use dp_num::Past;
 use std::alloc::Global;
-
-/// The greatest absolute value of a number.
-const MOST: u64 = 2_147_483_648;
 
 /// Casts each text to a number: an optional `-` and one or more ASCII digits, whose value is from -2^31 to 2^31. Every
 /// other text gives no number. It takes `Texts` and gives `OptInts`, both by `Symmetric`. The work is linear in the
@@ -52,8 +49,8 @@ impl Transformation for Cast {
 
     fn out_domain(&self) -> Domain {
         Domain::OptInts {
-            lo: -(MOST as i64),
-            hi: MOST as i64,
+            lo: -ITEM_LIMIT,
+            hi: ITEM_LIMIT,
         }
     }
 
@@ -120,7 +117,7 @@ fn small(digits: &[u8]) -> Option<u64>
     ensures limit { IfSome result (λ n. n ≤ 2 ^ 31) }
 {
     let number = decimal(digits)?;
-    if number > MOST {
+    if number > ITEM_LIMIT as u64 {
         return None;
     }
     Some(number)

@@ -3,17 +3,14 @@ ghost use Rattle.dp_domain.specs.Domains.{Fits};
 ghost use Rattle.dp_domain.specs.declared.domains.Domain.TheVariants as domain;
 ghost use Rattle.dp_domain.proofs.Limits.{Fits-prop};
 ghost use Rattle.dp_law.specs.Making.{MakesOr};
-ghost use Rattle.dp_rowwise.specs.Categories.{place_in, are_different, few_texts, categories_from};
+ghost use Rattle.dp_rowwise.specs.Categories.{place_in, are_different, categories_from};
 
 use crate::tables::Table;
 use dp_count::NoMemory;
-use dp_domain::{Cats, Domain, Metric, Text, Texts, Value};
+use dp_domain::{Cats, Domain, Metric, Text, Texts, Value, few_and_one};
 use dp_law::{MakeFault, Transformation};
 use dp_num::Past;
 use std::alloc::Global;
-
-/// The greatest number of texts.
-const MOST_TEXTS: u64 = 1_023;
 
 /// Gives the place of each text in a list of different texts, from 0, or their number where it is not there. It takes
 /// `Texts` and gives `Cats`, both by `Symmetric`. A text is looked up by its hash, so the work is linear in the bytes.
@@ -42,7 +39,7 @@ impl Categories {
         if metric != Metric::Symmetric {
             return Err(MakeFault::Metric);
         }
-        if !few_texts(texts.len()) {
+        if !few_and_one(texts.len()) {
             return Err(MakeFault::Bound);
         }
         let Some(table) = table_of(alloc, texts)? else {
@@ -111,13 +108,6 @@ fn number_of(table: &Table, text: &Text) -> u32
     ensures { result ≡ place_in table.now text.now }
 {
     table.number(text.as_slice()) as u32
-}
-
-/// Whether the number of texts is from 1 to 1,023.
-fn few_texts(len: u64) -> bool
-    ensures { result ≡ few_texts len }
-{
-    1 <= len && len <= MOST_TEXTS
 }
 
 /// The table of the texts, or none where two are equal.

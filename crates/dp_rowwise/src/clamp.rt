@@ -1,18 +1,16 @@
-ghost use Rattle.std.specs.Prelude.{◌≡◌, ◌^◌, ◌↔◌, map, IfOk, IsTrue};
-ghost use Rattle.dp_domain.specs.Domains.{Fits, IsRange};
+ghost use Rattle.std.specs.Prelude.{◌≡◌, ◌≤ℤ◌, map, IfOk};
+ghost use Rattle.dp_domain.specs.Domains.{Fits};
+ghost use Rattle.dp_domain.specs.Ranges.{clamped};
 ghost use Rattle.dp_domain.proofs.Limits.{Fits-prop};
 ghost use Rattle.dp_law.specs.Making.{Makes};
 ghost use Rattle.dp_domain.specs.declared.domains.Domain.TheVariants as domain;
-ghost use Rattle.dp_rowwise.specs.Clamp.{clamped, clamp_from, are_limits};
+ghost use Rattle.dp_rowwise.specs.Clamp.{clamp_from};
 
 use dp_count::NoMemory;
-use dp_domain::{Domain, Ints, Metric, Value};
+use dp_domain::{Domain, Ints, Metric, Value, clamped, is_item_range};
 use dp_law::{Refused, Transformation, is_list_metric, list_metric};
 use dp_num::Past;
 use std::alloc::Global;
-
-/// The greatest limit.
-const MOST: i64 = 2_147_483_648;
 
 /// Brings each number of a list into a range. It takes a list without a size by `Symmetric` or one with a size by
 /// `ChangeOne`. The work is linear in the list.
@@ -45,7 +43,7 @@ impl Clamp {
         if !is_list_metric(size, metric) {
             return Err(Refused::Metric);
         }
-        if !are_limits(&lo, &hi) {
+        if !is_item_range(&lo, &hi) {
             return Err(Refused::Bound);
         }
         Ok(Clamp {
@@ -104,20 +102,8 @@ impl Transformation for Clamp {
 
 /// Each number clamped.
 fn clamp_all(alloc: Global, numbers: &[i64], lo: &i64, hi: &i64) -> Result<Vec<i64>, NoMemory>
+    requires { lo.now ≤ℤ hi.now }
     ensures { IfOk result (λ out. out.items ≡ map (clamped lo.now hi.now) numbers.now) }
 {
-    Ok(
-        numbers
-            .iter()
-            .map(|z| (*z).max(*lo).min(*hi))
-            .collect(alloc)?,
-    )
-}
-
-/// Whether the limits are in order, and from -2^31 to 2^31.
-fn are_limits(lo: &i64, hi: &i64) -> bool
-    ensures value { result ≡ are_limits lo.now hi.now }
-    ensures range { IsTrue result ↔ IsRange (2 ^ 31) lo.now hi.now }
-{
-    -MOST <= *lo && *lo <= *hi && *hi <= MOST
+    Ok(numbers.iter().map(|z| clamped(lo, hi, z)).collect(alloc)?)
 }

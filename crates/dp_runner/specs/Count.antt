@@ -1,8 +1,9 @@
 -- The command `count DATA DRAWS LO HI`.
-use Rattle.std.specs.Prelude.{ℕ, ℤ, pos, neg_ℤ, ◌-ℤ◌, ◌≤ℤ◌, ◌&&◌, ◌^◌, ◌++◌, Bool, true, List, [], ◌∷◌, length, Option, Some, None, Result, Ok, if◌then◌else◌, option_and_then, option_map, codes, int_le}
+use Rattle.std.specs.Prelude.{ℕ, ℤ, pos, neg_ℤ, ◌-ℤ◌, ◌≤ℤ◌, ◌&&◌, ◌^◌, ◌++◌, true, List, [], ◌∷◌, length, Option, Some, None, Result, Ok, if◌then◌else◌, option_and_then, option_map, codes}
 use Rattle.std.specs.Fmt as fmt
 use Rattle.dp_count.specs.Digits.{signed_decimal}
 use Rattle.dp_io.specs.Shelf.{Files}
+use Rattle.dp_domain.specs.Ranges.{is_narrow}
 use Rattle.dp_draws.specs.Taking.{take_draws}
 use Rattle.dp_draws.specs.Sources.{replay_step}
 use Rattle.dp_geometric.specs.OneCell.{cell_shape, cell_out}
@@ -21,20 +22,16 @@ pub record CountForm : Type 0 where
   pub lo : ℤ
   pub hi : ℤ
 
--- a range of at most 65,536 numbers
-abbrev pub is_range : ℤ → ℤ → Bool
-is_range lo hi = int_le lo hi && int_le (hi -ℤ lo) (pos 65535)
-
--- such a range within the limits of a geometric cell
+-- a range of at most 65,536 numbers, within the limits of a geometric cell
 pub record IsCellRange (lo hi : ℤ) : Type 0 where
   pub least : neg_ℤ (pos (2 ^ 61)) ≤ℤ lo
   pub ordered : lo ≤ℤ hi
   pub greatest : hi ≤ℤ pos (2 ^ 61)
   pub narrow : (hi -ℤ lo) ≤ℤ pos 65535
 
--- a range of two numbers, if it is one
+-- a range of at most 65,536 numbers by its two bounds, if it is one
 abbrev pub range_if : ℤ → ℤ → Option (ℤ × ℤ)
-range_if lo hi = if is_range lo hi then Some (lo, hi) else None
+range_if lo hi = if is_narrow lo hi then Some (lo, hi) else None
 
 -- the range of two number words, each an optional `-` and 1 to 18 digits
 abbrev pub range_of : List ℕ → List ℕ → Option (ℤ × ℤ)

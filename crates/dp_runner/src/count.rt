@@ -3,12 +3,13 @@ ghost use Rattle.std.specs.Result.{result_ok};
 ghost use Rattle.dp_count.specs.Faults.{Rose};
 ghost use Rattle.dp_runner.specs.Causes.{Answers, Kept, Runs};
 ghost use Rattle.dp_runner.specs.Outcome.{Source, written_last};
-ghost use Rattle.dp_runner.specs.Count.{count_form, count_form_of, range_of, is_range, IsCellRange, counted, cell_draws, cell_answer, count_answer, count_written, ratio_low, ratio_high};
+ghost use Rattle.dp_runner.specs.Count.{count_form, count_form_of, range_of, IsCellRange, counted, cell_draws, cell_answer, count_answer, count_written, ratio_low, ratio_high};
 
 use crate::stop::Stop;
 use crate::tally::{MOST_RECORDS, count_records};
 use crate::texts::{MOST_DATA, read_file, read_replay};
 use dp_count::{Failed, signed_decimal};
+use dp_domain::is_narrow;
 use dp_draws::{Draws, Replay};
 use dp_geometric::Cell;
 use dp_io::{Shelf, Sink, write_all};
@@ -17,9 +18,6 @@ use std::marker::Model;
 
 /// The greatest number of digits of a number word.
 const NUMBER_DIGITS: usize = 18;
-
-/// The greatest `hi` - `lo` of a range.
-const WIDEST: i64 = 65535;
 
 /// The words of `count DATA DRAWS LO HI`.
 #[derive(Debug, Drop)]
@@ -114,14 +112,7 @@ fn range(lo: &str, hi: &str) -> Option<(i64, i64)>
 {
     let lo = signed_decimal(lo.as_bytes(), NUMBER_DIGITS)?;
     let hi = signed_decimal(hi.as_bytes(), NUMBER_DIGITS)?;
-    is_range(lo, hi).then_some((lo, hi))
-}
-
-/// Whether `lo` is at most `hi`, and `hi` - `lo` at most 65,535.
-fn is_range(lo: i64, hi: i64) -> bool
-    ensures { result ≡ is_range lo hi }
-{
-    lo <= hi && hi.checked_sub(lo).is_some_and(|width| width <= WIDEST)
+    is_narrow(&lo, &hi).then_some((lo, hi))
 }
 
 /// Answers, and writes the line of the answer. No draw is taken from the source that is handed in to the run.

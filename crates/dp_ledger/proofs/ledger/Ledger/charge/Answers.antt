@@ -12,8 +12,8 @@ stands : {D : Type 0} (reads : D → _) (may_leave : D → List ℕ → Type 0) 
 stands reads may_leave disk ledger (inl on) not = on.rests
 stands reads may_leave disk ledger (inr shut) not = absurd (cc)
 
-pub returns-then-self-by-gt-MOST-clause-any_moment : goal.returns-then-self-by-gt-MOST-clause-any_moment
-returns-then-self-by-gt-MOST-clause-any_moment g c = λ not tells.
+pub returns-then-self-by-gt-MOST_UNITS-clause-any_moment : goal.returns-then-self-by-gt-MOST_UNITS-clause-any_moment
+returns-then-self-by-gt-MOST_UNITS-clause-any_moment g c = λ not tells.
     let d = g.B.Disk in
     let ledger = c.args.self.now in
     let disk = c.args.disk.now in
@@ -69,8 +69,8 @@ left_now reads may_leave disk ledger by rests tells c left =
     let is = rests was.0 was.1 in
     inl (subst (HasTotal ledger.ratio ledger.total) (sym (is.1 c left)) is.0.total)
 
-pub returns-then-self-by-gt-MOST-clause-at_exit : goal.returns-then-self-by-gt-MOST-clause-at_exit
-returns-then-self-by-gt-MOST-clause-at_exit g c = λ not tells.
+pub returns-then-self-by-gt-MOST_UNITS-clause-at_exit : goal.returns-then-self-by-gt-MOST_UNITS-clause-at_exit
+returns-then-self-by-gt-MOST_UNITS-clause-at_exit g c = λ not tells.
     let d = g.B.Disk in
     left_now d.reads d.may_leave c.args.disk.now c.args.self.now c.args.by (stands d.reads d.may_leave c.args.disk.now c.args.self.now c.requires.stands not) tells
 

@@ -1,7 +1,8 @@
 use Rattle.std.proofs.Common.{◌≡◌, map, ap, ◌∙◌}
 use Rattle.dp_domain.specs.declared.values.Value.TheVariants as value
+use Rattle.dp_domain.specs.Ranges.{clamped}
 use Rattle.dp_law.proofs.Landing.{lands_at}
-use Rattle.dp_rowwise.specs.Clamp.{clamp_mapping, clamp_value, clamped}
+use Rattle.dp_rowwise.specs.Clamp.{clamp_mapping, clamp_value}
 use Rattle.dp_rowwise.specs.ClampProof.{clamp_law}
 use Rattle.dp_rowwise.proofs.clamp.ClampTransformation.apply.Goals as goal
 

@@ -6,7 +6,7 @@ use Rattle.std.specs.List.Sorted.{IsPartitionedBy}
 use Rattle.std.proofs.lemmas.Int.{ints}
 use Rattle.std.proofs.lemmas.Bool.{cases_lt, cases_Bool}
 use Rattle.std.proofs.lemmas.List.Sums.{AllPass-from_list_all, list_all-from_AllPass, sum_by-cons}
-use Rattle.dp_aggregate.specs.Edges.{is_rising}
+use Rattle.dp_domain.specs.Edges.{is_rising}
 
 both : (a b : Bool) → (a && b) ≡ true → (a ≡ true) × (b ≡ true)
 both true true h = (refl, refl)
@@ -68,6 +68,3 @@ count-parted p (x ∷ xs) (suc i) h passing failing =
     let here : p x ≡ true = passing 0 x (omega arith) (omega arith) in
     let rest = count-parted p xs i (omega arith) (λ k d a b. rw add-one at (passing (k + 1) d (omega arith) (omega arith))) (λ k d a b. rw add-one at (failing (k + 1) d (omega arith) (omega arith))) in
     rw (sum_by-cons (λ y. cond (p y) 1 0) x xs, here) (omega arith)
-
-pub edges-rise : (a b c d : Bool) → (a && b && c && d) ≡ true → d ≡ true
-edges-rise a b c d h = (both _ d h).1
