@@ -1,7 +1,6 @@
 -- Telling which edges a number reaches is stable.
-use Rattle.std.proofs.Common.{◌≡◌, ℕ, ◌+◌, ◌≤◌, min, ℤ, ◌-ℤ◌, List, length, Some, Option, inl, inr, ap, arith}
-use Rattle.std.specs.Prelude.{nat_abs, int_le}
-use Rattle.std.proofs.lemmas.Int.{ints}
+use Rattle.std.proofs.Common.{◌≡◌, ℕ, ◌+◌, ◌≤◌, min, ℤ, List, length, Some, Option, inl, inr, ap, arith}
+use Rattle.std.specs.Prelude.{int_le}
 use Rattle.std.proofs.lemmas.Bool.{cases_lt}
 use Rattle.std.proofs.lemmas.List.Sums.{count_by-le-length}
 use Rattle.dp_domain.specs.declared.domains.Domain.TheVariants as domain
@@ -11,6 +10,7 @@ use Rattle.dp_domain.specs.declared.values.Value.TheVariants as value
 use Rattle.dp_domain.specs.Domains.{Fits, Has}
 use Rattle.dp_domain.specs.Edges.{edges_at_most}
 use Rattle.dp_domain.specs.Metrics.{Within}
+use Rattle.dp_domain.proofs.VectorDistance.{same-number}
 use Rattle.dp_law.specs.Mapping.{IsStable}
 use Rattle.dp_law.proofs.Suits.{both-hold}
 use Rattle.dp_aggregate.specs.AtLeast.{at_least_value, at_least_mapping}
@@ -18,9 +18,6 @@ use Rattle.dp_aggregate.specs.AtLeast.{at_least_value, at_least_mapping}
 at_least_lands : (edges : List ℤ) (lo hi : ℤ) (v : Value) → Has (domain.Int lo hi) v → Has (domain.Cat (length edges + 1)) (at_least_value edges v)
 at_least_lands edges lo hi (value.Int z) has = omega (arith, count_by-le-length (λ edge. int_le edge z) edges)
 at_least_lands edges lo hi v has = absurd has
-
-same-number : (z w : ℤ) → nat_abs (z -ℤ w) ≤ 0 → z ≡ w
-same-number z w h = omega (arith, ints)
 
 at_least_stable : (edges : List ℤ) (d e : ℕ) (v w : Value) → min d 1 ≡ e → Within metrics.Absolute d v w → Within metrics.Discrete e (at_least_value edges v) (at_least_value edges w)
 at_least_stable edges d e (value.Int z) (value.Int w) map_is near = elim (cases_lt 0 d) [

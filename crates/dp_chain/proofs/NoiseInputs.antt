@@ -14,7 +14,7 @@ use Rattle.dp_law.specs.declared.refusals.Refused.TheVariants as refused
 use Rattle.dp_law.specs.Mechanism.{Mechanism}
 use Rattle.dp_geometric.specs.Geometric.{geometric, geometric_with, is_answer_range, noise_shape}
 use Rattle.dp_geometric.specs.OneCell.{width}
-use Rattle.dp_geometric.specs.GeometricLaw.{length-cell, length-cells, narrow-width}
+use Rattle.dp_geometric.specs.GeometricProof.{length-cell, length-cells, narrow-width}
 use Rattle.dp_response.specs.Response.{response, response_with, draw_bound}
 use Rattle.dp_choice.specs.Choice.{choice, choice_with, is_choice}
 use Rattle.dp_chain.specs.Releases.{IsLike}

@@ -66,9 +66,9 @@ impl AnyMeasurement {
 
 impl Measurement for AnyMeasurement {
     ghost use Rattle.dp_chain.specs.declared.any_measurement.AnyMeasurement.TheVariants as any;
-    ghost use Rattle.dp_geometric.specs.contracts.measuring.GeometricMeasurement.TheImpl.Laws.{law-law as geometric_law};
-    ghost use Rattle.dp_response.specs.contracts.responding.ResponseMeasurement.TheImpl.Laws.{law-law as response_law};
-    ghost use Rattle.dp_choice.specs.contracts.choosing.ChoiceMeasurement.TheImpl.Laws.{law-law as choice_law};
+    ghost use Rattle.dp_geometric.specs.contracts.geometric.GeometricMeasurement.TheImpl.Laws.{law-law as geometric_law};
+    ghost use Rattle.dp_response.specs.contracts.response.ResponseMeasurement.TheImpl.Laws.{law-law as response_law};
+    ghost use Rattle.dp_choice.specs.contracts.choice.ChoiceMeasurement.TheImpl.Laws.{law-law as choice_law};
 
     ghost mechanism = { elim [
       | any.Geometric m ↦ ⟦<Geometric as Measurement>⟧.mechanism m

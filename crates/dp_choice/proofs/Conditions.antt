@@ -8,8 +8,8 @@ use Rattle.dp_domain.specs.declared.domains.Domain.TheVariants as domain
 use Rattle.dp_domain.specs.Domains.{Fits}
 use Rattle.dp_domain.specs.Ranges.{is_narrow_range}
 use Rattle.dp_domain.proofs.NarrowRanges.{narrow-range}
-use Rattle.dp_choice.specs.Choosing.{weight}
-use Rattle.dp_choice.specs.Choice.{first_weight, all_draws, is_score_range, weights_fit, is_choice}
+use Rattle.dp_choice.specs.Weights.{weight, first_weight, all_draws, is_score_range, weights_fit}
+use Rattle.dp_choice.specs.Choice.{is_choice}
 use Rattle.dp_choice.specs.ChoicePrivacy.{HasRoom}
 
 both-of : (a b : Bool) → (a && b) ≡ true → (a ≡ true) × (b ≡ true)

@@ -10,9 +10,9 @@ use Rattle.std.proofs.lemmas.Bool.Decides.{nat_tests}
 use Rattle.std.proofs.Math.ListN.{get_or-append}
 use Rattle.std.proofs.Math.Seq.{get_or-append_seam}
 use Rattle.std.proofs.Math.Nat.{le-div_iff_mul-le}
-use Rattle.dp_choice.specs.Choosing.{weight, score, weights, last_below}
-use Rattle.dp_choice.specs.Choice.{weight_table}
-use Rattle.dp_choice.specs.WeightLaws.{length-weights}
+use Rattle.dp_choice.specs.Weights.{weight, score, weights, weight_table}
+use Rattle.dp_choice.specs.Shares.{last_below}
+use Rattle.dp_choice.specs.WeightProof.{length-weights}
 
 pub table-start : (first low high : ℕ) → weight_table first low high 0 ≡ first ∷ []
 unfolding weight_table

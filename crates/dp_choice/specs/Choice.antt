@@ -1,5 +1,5 @@
 -- Weighted choice as a measurement.
-use Rattle.std.specs.Prelude.{◌≡◌, ◌≤◌, ◌<◌, ℕ, zero, suc, ◌+◌, ◌-◌, ◌*◌, ◌^◌, ◌==◌, ◌&&◌, ℤ, ◌-ℤ◌, nat_abs, int_lt, nat_le, Bool, true, false, List, [], ◌∷◌, ◌++◌, Option, Some, None, Result, Ok, Err, if◌then◌else◌}
+use Rattle.std.specs.Prelude.{◌≡◌, ℕ, ◌+◌, ◌*◌, ◌==◌, ◌&&◌, ℤ, ◌-ℤ◌, nat_abs, Bool, true, false, List, [], ◌∷◌, Option, Some, None, Result, Ok, Err, if◌then◌else◌}
 use Rattle.dp_num.specs.Limits.{capped, powers}
 use Rattle.dp_domain.specs.declared.domains.Domain.{Domain}
 use Rattle.dp_domain.specs.declared.domains.Domain.TheVariants as domain
@@ -7,31 +7,13 @@ use Rattle.dp_domain.specs.declared.metrics.Metric.{Metric}
 use Rattle.dp_domain.specs.declared.metrics.Metric.TheVariants as metrics
 use Rattle.dp_domain.specs.declared.values.Value.{Value}
 use Rattle.dp_domain.specs.declared.values.Value.TheVariants as value
-use Rattle.dp_domain.specs.Ranges.{is_narrow_range}
 use Rattle.dp_law.specs.declared.pieces.Piece.{Piece}
 use Rattle.dp_law.specs.declared.pieces.Piece.TheVariants as piece
 use Rattle.dp_law.specs.declared.refusals.Refused.{Refused}
 use Rattle.dp_law.specs.declared.refusals.Refused.TheVariants as refused
 use Rattle.dp_law.specs.Mechanism.{Mechanism}
-use Rattle.dp_choice.specs.Choosing.{weight, weights, chosen_by}
-
--- the weight of the score 0
-abbrev pub first_weight : ℕ
-first_weight = 65536
-
--- the bound of the draw
-abbrev pub all_draws : ℕ
-all_draws = 2 ^ 62
-
--- the weights of the scores from 0 to a greatest one
-unfoldable pub weight_table : ℕ → ℕ → ℕ → ℕ → List ℕ
-weight_table first low high zero = first ∷ []
-weight_table first low high (suc s) = weight_table first low high s ++ weight first low high (suc s) ∷ []
-
--- the weight of the greatest score, or none where it is greater than the bound of the draw
-abbrev pub IsGreatest : ℕ → ℕ → ℕ → ℕ → Option ℕ → Type 0
-IsGreatest first low high most (Some greatest) = (greatest ≡ weight first low high most) × (greatest ≤ all_draws)
-IsGreatest first low high most None = all_draws < weight first low high most
+use Rattle.dp_choice.specs.Weights.{weight, weights, first_weight, all_draws, weight_table, is_score_range, weights_fit}
+use Rattle.dp_choice.specs.Shares.{chosen_by}
 
 -- the category that is chosen on a value
 abbrev pub choose : ℕ → ℕ → ℕ → ℕ → ℤ → ℤ → Value → List ℕ → List Piece
@@ -57,14 +39,6 @@ choice_of n first len least most p q u floor top low high = record {
 
 abbrev pub choice : ℕ → ℤ → ℤ → ℕ → ℕ → ℕ → ℤ → ℤ → ℕ → ℕ → Mechanism
 choice = choice_of all_draws first_weight
-
--- the range of the scores has more than one number and at most 65,536, from -2 ^ 61 to 2 ^ 61
-abbrev pub is_score_range : ℤ → ℤ → Bool
-is_score_range floor top = int_lt floor top && is_narrow_range floor top
-
--- the sum of the weights fits, and each cell's share leaves room for the rounding
-abbrev pub weights_fit : ℕ → ℕ → ℕ → ℕ → Bool
-weights_fit len most p q = nat_le (len * most) all_draws && nat_le (len * most * (q + p)) (all_draws * first_weight * (q - p))
 
 -- the range of the scores is one, and the greatest of the weights fits
 abbrev pub is_choice : ℕ → ℕ → ℕ → ℤ → ℤ → ℕ → ℕ → Bool

@@ -3,7 +3,7 @@ use Rattle.std.specs.Prelude.{◌≡◌, ℕ, ◌+◌, ◌*◌, ◌^◌, ◌≤�
 use Rattle.dp_domain.specs.declared.domains.Domain.TheVariants as domain
 use Rattle.dp_domain.specs.Domains.{Fits}
 use Rattle.dp_law.specs.Mechanism.{IsBelowOne, IsPrivate}
-use Rattle.dp_choice.specs.Choosing.{weight}
+use Rattle.dp_choice.specs.Weights.{weight}
 use Rattle.dp_choice.specs.Choice.{choice_of}
 
 -- each cell's share leaves room for the rounding of the shares: n first (q - p) is at least the greatest sum of the

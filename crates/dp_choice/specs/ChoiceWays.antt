@@ -5,7 +5,8 @@ use Rattle.dp_domain.specs.declared.values.Value.TheVariants as value
 use Rattle.dp_law.specs.declared.pieces.Piece.{Piece}
 use Rattle.dp_law.specs.declared.pieces.Piece.TheVariants as piece
 use Rattle.dp_law.specs.Mechanism.{ways}
-use Rattle.dp_choice.specs.Choosing.{weights, share}
+use Rattle.dp_choice.specs.Weights.{weights}
+use Rattle.dp_choice.specs.Shares.{share}
 use Rattle.dp_choice.specs.Choice.{choice_of}
 
 -- the number of draws of the cell j: what its weight adds to the share, so that it lies by less than 1 from the exact

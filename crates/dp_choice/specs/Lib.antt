@@ -1,8 +1,9 @@
 pub mod Choice
-pub mod ChoiceLaw
 pub mod ChoicePrivacy
+pub mod ChoiceProof
 pub mod ChoiceWays
-pub mod Choosing
-pub mod PlaceLaws
-pub mod ShareLaws
-pub mod WeightLaws
+pub mod PlaceProof
+pub mod ShareProof
+pub mod Shares
+pub mod WeightProof
+pub mod Weights

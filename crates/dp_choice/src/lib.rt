@@ -3,7 +3,8 @@
 //! of the draws, rounded down. How many draws choose a cell is known exactly.
 #![tactic(auto)]
 
-mod choosing;
+mod choice;
 pub mod laws;
+mod weights;
 
-pub use choosing::Choice;
+pub use choice::Choice;

@@ -9,4 +9,5 @@ pub mod Limits
 pub mod NarrowRanges
 pub mod Occurrences
 pub mod Places
+pub mod VectorDistance
 pub mod WeightedSums

@@ -15,7 +15,7 @@ use Rattle.dp_geometric.specs.CellLaw as cell
 use Rattle.dp_geometric.specs.CellLaw.{away, CellCounts}
 use Rattle.dp_geometric.specs.CellProof.{cell-counts}
 use Rattle.dp_geometric.specs.Geometric.{cell_slot}
-use Rattle.dp_geometric.specs.GeometricLaw.{number_ways, number-is, vector_ways, vector-is}
+use Rattle.dp_geometric.specs.GeometricProof.{number_ways, number-is, vector_ways, vector-is}
 use Rattle.dp_geometric.specs.GeometricWays.{cell_draws_for, cells_draws_for, draws_for, WaysLaw}
 
 below : (a lo : ℤ) → int_lt a lo ≡ true → a <ℤ lo

@@ -4,7 +4,7 @@ use Rattle.std.proofs.lemmas.Int.{ints, clamps}
 use Rattle.dp_count.proofs.Places.{share-ratio, factor-inside, factor-first, factor-last, factor-single}
 use Rattle.dp_geometric.specs.OneCell.{width}
 use Rattle.dp_geometric.specs.CellLaw.{ways, distance, away, CellCounts, CellPrivate}
-use Rattle.dp_geometric.specs.CellPlaces.{place, ways-share, ways-outside}
+use Rattle.dp_geometric.specs.CellPlacesProof.{place, ways-share, ways-outside}
 
 -- the places of answers between the ends and at the ends
 place-positive : (lo a : ℤ) → lo <ℤ a → 0 < place lo a

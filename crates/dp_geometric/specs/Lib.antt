@@ -1,7 +1,7 @@
 pub mod CellLaw
-pub mod CellPlaces
+pub mod CellPlacesProof
 pub mod CellProof
 pub mod Geometric
-pub mod GeometricLaw
+pub mod GeometricProof
 pub mod GeometricWays
 pub mod OneCell

@@ -4,11 +4,11 @@
 #![tactic(auto)]
 
 mod cells;
+mod geometric;
 pub mod laws;
-mod measuring;
 mod runs;
 #[cfg(test)]
 mod small;
 
 pub use cells::Cell;
-pub use measuring::Geometric;
+pub use geometric::Geometric;

@@ -1,3 +1,3 @@
 pub mod Response
-pub mod ResponseLaw
+pub mod ResponseProof
 pub mod ResponseWays

@@ -4,6 +4,6 @@
 #![tactic(auto)]
 
 pub mod laws;
-mod responding;
+mod response;
 
-pub use responding::Response;
+pub use response::Response;

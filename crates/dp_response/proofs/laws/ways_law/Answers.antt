@@ -1,4 +1,4 @@
-use Rattle.dp_response.specs.ResponseLaw.{response_ways}
+use Rattle.dp_response.specs.ResponseProof.{response_ways}
 use Rattle.dp_response.proofs.laws.ways_law.Goals as goal
 
 pub returns : goal.returns

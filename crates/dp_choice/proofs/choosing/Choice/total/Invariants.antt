@@ -1,8 +1,0 @@
-use Rattle.std.proofs.Common.{◌≡◌, take}
-use Rattle.std.specs.List.{sum}
-use Rattle.dp_choice.specs.Choosing.{weights}
-use Rattle.dp_choice.specs.Choice.{first_weight}
-use Rattle.dp_choice.proofs.choosing.Choice.total.Given as goal
-
-abbrev pub invariant-loop-cell : goal.invariant-loop-cell
-invariant-loop-cell l = l.total ≡ sum (take l.cell-index (weights first_weight l.self.low l.self.high l.self.floor l.self.top l.cells))
