@@ -1,6 +1,7 @@
 -- What a budget allows, what is left of it, and when a cost is over it.
-use Rattle.std.specs.Prelude.{ℕ, ◌+◌, ◌≤◌, ◌^◌, ◌&&◌, ◌||◌, Bool, false, List, length, take, ◌-◌, Option, Some, None, if◌then◌else◌, nat_lt, nat_le, slice_index}
+use Rattle.std.specs.Prelude.{ℕ, ◌+◌, ◌≤◌, ◌&&◌, ◌||◌, Bool, false, List, length, take, ◌-◌, Option, Some, None, if◌then◌else◌, nat_lt, nat_le, slice_index}
 use Rattle.std.specs.List.{sum}
+use Rattle.dp_num.specs.Limits.{most_units}
 use Rattle.dp_budget.specs.declared.budget.Rule.{Rule}
 use Rattle.dp_budget.specs.declared.budget.Rule.TheVariants as rule
 use Rattle.dp_budget.specs.declared.over.Over.{Over}
@@ -17,7 +18,7 @@ fresh r = record { rule = r; spent = 0; place = 0 }
 
 -- from 1 to 1,024 mids with a sum of at most 2 ^ 32
 abbrev pub are_mids : List ℕ → Bool
-are_mids mids = nat_le 1 (length mids) && nat_le (length mids) 1024 && nat_le (sum mids) (2 ^ 32)
+are_mids mids = nat_le 1 (length mids) && nat_le (length mids) 1024 && nat_le (sum mids) most_units
 
 -- the most that can be admitted in all: the sum of the mids, or the limit
 abbrev pub declared : Rule → Option ℕ
@@ -29,7 +30,7 @@ declared rule.Odometer = None
 abbrev pub left_of : Rule → ℕ → ℕ → ℕ
 left_of (rule.Compositor mids) _ place = slice_index mids place
 left_of (rule.Filter limit) spent _ = limit - spent
-left_of rule.Odometer spent _ = 2 ^ 32 - spent
+left_of rule.Odometer spent _ = most_units - spent
 
 -- all mids are used
 abbrev pub is_used_up : Rule → ℕ → Bool
@@ -58,6 +59,6 @@ charged a cost = record { rule = a.rule; spent = a.spent + cost; place = a.place
 -- what is spent is within the rule: within the used mids, or within the limit
 abbrev pub WithinRule : Rule → ℕ → ℕ → Type 0
 WithinRule (rule.Compositor mids) spent place =
-    (place ≤ length mids) × (length mids ≤ 1024) × (spent ≤ sum (take place mids)) × (sum mids ≤ 2 ^ 32)
-WithinRule (rule.Filter limit) spent _ = (spent ≤ limit) × (limit ≤ 2 ^ 32)
-WithinRule rule.Odometer spent _ = spent ≤ 2 ^ 32
+    (place ≤ length mids) × (length mids ≤ 1024) × (spent ≤ sum (take place mids)) × (sum mids ≤ most_units)
+WithinRule (rule.Filter limit) spent _ = (spent ≤ limit) × (limit ≤ most_units)
+WithinRule rule.Odometer spent _ = spent ≤ most_units

@@ -1,8 +1,7 @@
 -- A noise that is made takes the domain, the metric and the ratio on which it is made, with few draws.
-use Rattle.std.proofs.Common.{◌≡◌, ℕ, ℤ, ◌+◌, ◌*◌, ◌≤◌, ◌^◌, Bool, true, false, ◌&&◌, cond, Option, Some, None, Ok, Err, length, refl, sym, arith, pos}
-use Rattle.std.specs.Prelude.{Result, neg_ℤ, nat_le, ◌≤ℤ◌, ◌-ℤ◌, int_le}
+use Rattle.std.proofs.Common.{◌≡◌, ℕ, ℤ, ◌+◌, ◌*◌, ◌≤◌, ◌^◌, Bool, true, false, cond, Option, Some, None, Ok, Err, length, refl, sym, arith}
+use Rattle.std.specs.Prelude.{Result, nat_le}
 use Rattle.std.proofs.Math.Nat.{mul-le-mul}
-use Rattle.std.proofs.lemmas.Int.{ints}
 use Rattle.dp_num.specs.Limits.{Fraction, powers}
 use Rattle.dp_domain.specs.declared.domains.Domain.{Domain}
 use Rattle.dp_domain.specs.declared.domains.Domain.TheVariants as domain
@@ -12,7 +11,9 @@ use Rattle.dp_domain.specs.Domains.{Fits}
 use Rattle.dp_law.specs.declared.refusals.Refused.{Refused}
 use Rattle.dp_law.specs.declared.refusals.Refused.TheVariants as refused
 use Rattle.dp_law.specs.Mechanism.{Mechanism}
-use Rattle.dp_geometric.specs.Geometric.{geometric, geometric_with, is_answer_range, noise_shape}
+use Rattle.dp_domain.specs.Ranges.{is_narrow_range}
+use Rattle.dp_domain.proofs.NarrowRanges.{narrow-range}
+use Rattle.dp_geometric.specs.Geometric.{geometric, geometric_with, noise_shape}
 use Rattle.dp_geometric.specs.OneCell.{width}
 use Rattle.dp_geometric.specs.GeometricProof.{length-cell, length-cells, narrow-width}
 use Rattle.dp_response.specs.Response.{response, response_with, draw_bound}
@@ -27,23 +28,10 @@ abbrev pub Likes : Result Mechanism Refused → Fraction → Domain → Metric �
 Likes (Ok made) ratio domain metric = IsLike ratio domain metric made
 Likes (Err refusal) ratio domain metric = Unit {0}
 
-two-hold : (a b : Bool) → (a && b) ≡ true → (a ≡ true) × (b ≡ true)
-two-hold true true h = (refl, refl)
-two-hold true false h = absurd (cc)
-two-hold false b h = absurd (cc)
+answers-narrow : (lo hi : ℤ) → is_narrow_range lo hi ≡ true → width lo hi ≤ 65535
+answers-narrow lo hi h = let range = narrow-range lo hi h in narrow-width lo hi range.ordered range.narrow
 
-answers-narrow : (lo hi : ℤ) → is_answer_range lo hi ≡ true → width lo hi ≤ 65535
-answers-narrow lo hi h =
-    let last = two-hold (int_le (neg_ℤ (pos (2 ^ 61))) lo && int_le lo hi && int_le hi (pos (2 ^ 61))) (int_le (hi -ℤ lo) (pos 65535)) h in
-    let front = two-hold (int_le (neg_ℤ (pos (2 ^ 61))) lo && int_le lo hi) (int_le hi (pos (2 ^ 61))) last.0 in
-    let order = two-hold (int_le (neg_ℤ (pos (2 ^ 61))) lo) (int_le lo hi) front.0 in
-    let below = order.1 in
-    let near = last.1 in
-    let ordered : lo ≤ℤ hi = grind (arith, ints) in
-    let narrow : (hi -ℤ lo) ≤ℤ pos 65535 = grind (arith, ints) in
-    narrow-width lo hi ordered narrow
-
-number-likes : (good : Bool) (least most lo hi : ℤ) (p q u low high : ℕ) → is_answer_range lo hi ≡ good →
+number-likes : (good : Bool) (least most lo hi : ℤ) (p q u low high : ℕ) → is_narrow_range lo hi ≡ good →
     Likes (cond good (Ok (geometric (domain.Int least most) p q u lo hi low high)) (Err refused.Bound)) record { p = p; q = q } (domain.Int least most) metrics.Absolute
 number-likes true least most lo hi p q u low high good = record {
   input_domain = refl;
@@ -54,7 +42,7 @@ number-likes true least most lo hi p q u low high good = record {
 }
 number-likes false least most lo hi p q u low high good = tt
 
-vector-likes : (good : Bool) (len : ℕ) (least most lo hi : ℤ) (p q u low high : ℕ) → len ≤ 1024 → is_answer_range lo hi ≡ good →
+vector-likes : (good : Bool) (len : ℕ) (least most lo hi : ℤ) (p q u low high : ℕ) → len ≤ 1024 → is_narrow_range lo hi ≡ good →
     Likes (cond good (Ok (geometric (domain.IntVec len least most) p q u lo hi low high)) (Err refused.Bound)) record { p = p; q = q } (domain.IntVec len least most) metrics.L1
 vector-likes true len least most lo hi p q u low high short good = record {
   input_domain = refl;
@@ -71,11 +59,11 @@ vector-likes false len least most lo hi p q u low high short good = tt
 
 number-with : (both : Option (ℕ × ℕ)) (least most lo hi : ℤ) (p q u : ℕ) → Likes (geometric_with (domain.Int least most) p q u lo hi both) record { p = p; q = q } (domain.Int least most) metrics.Absolute
 number-with None least most lo hi p q u = tt
-number-with (Some both) least most lo hi p q u = number-likes (is_answer_range lo hi) least most lo hi p q u both.0 both.1 refl
+number-with (Some both) least most lo hi p q u = number-likes (is_narrow_range lo hi) least most lo hi p q u both.0 both.1 refl
 
 vector-with : (both : Option (ℕ × ℕ)) (len : ℕ) (least most lo hi : ℤ) (p q u : ℕ) → len ≤ 1024 → Likes (geometric_with (domain.IntVec len least most) p q u lo hi both) record { p = p; q = q } (domain.IntVec len least most) metrics.L1
 vector-with None len least most lo hi p q u short = tt
-vector-with (Some both) len least most lo hi p q u short = vector-likes (is_answer_range lo hi) len least most lo hi p q u both.0 both.1 short refl
+vector-with (Some both) len least most lo hi p q u short = vector-likes (is_narrow_range lo hi) len least most lo hi p q u both.0 both.1 short refl
 
 response-likes : (good : Bool) (n p q u low high : ℕ) → Likes (cond good (Ok (response n p q u low high)) (Err refused.Bound)) record { p = p; q = q } (domain.Cat n) metrics.Discrete
 response-likes true n p q u low high = record { input_domain = refl; input_metric = refl; one_ratio = refl; few_draws = omega arith; few_pieces = omega arith }

@@ -16,7 +16,8 @@ use Rattle.dp_law.specs.Mechanism.{Mechanism}
 use Rattle.dp_aggregate.specs.Count.{has_lists, has_unsized_lists, count_mapping}
 use Rattle.dp_aggregate.specs.Sum.{sum_factor}
 use Rattle.dp_aggregate.specs.Histogram.{histogram_factor}
-use Rattle.dp_geometric.specs.Geometric.{geometric, geometric_with, is_answer_range}
+use Rattle.dp_domain.specs.Ranges.{is_narrow_range}
+use Rattle.dp_geometric.specs.Geometric.{geometric, geometric_with}
 use Rattle.dp_response.specs.Response.{response, response_with, draw_bound}
 use Rattle.dp_choice.specs.Choice.{choice, choice_with, is_choice}
 use Rattle.dp_count.specs.Results.{◌>>=◌}
@@ -108,7 +109,7 @@ made-zero false made zero_is = tt
 
 number-zero : (both : Option (ℕ × ℕ)) (input : Domain) (p q u : ℕ) (lo hi : ℤ) → LossZero (geometric_with input p q u lo hi both)
 number-zero None input p q u lo hi = tt
-number-zero (Some both) input p q u lo hi = made-zero (is_answer_range lo hi) (geometric input p q u lo hi both.0 both.1) (capped-zero (u * 0) (omega arith))
+number-zero (Some both) input p q u lo hi = made-zero (is_narrow_range lo hi) (geometric input p q u lo hi both.0 both.1) (capped-zero (u * 0) (omega arith))
 
 response-zero : (both : Option (ℕ × ℕ)) (n p q u : ℕ) → LossZero (response_with n p q u both)
 response-zero None n p q u = tt

@@ -6,7 +6,7 @@ use mir.Val.{SFits}
 use Rattle.std.proofs.lemmas.Bool.Decides.{nat_tests}
 use Rattle.dp_domain.specs.declared.domains.Domain.TheVariants as domain
 use Rattle.dp_domain.specs.Domains.{Fits}
-use Rattle.dp_domain.specs.Ranges.{is_narrow_range}
+use Rattle.dp_domain.specs.Ranges.{is_narrow_range, IsNarrowRange}
 use Rattle.dp_domain.proofs.NarrowRanges.{narrow-range}
 use Rattle.dp_choice.specs.Weights.{weight, first_weight, all_draws, is_score_range, weights_fit}
 use Rattle.dp_choice.specs.Choice.{is_choice}
@@ -15,12 +15,6 @@ use Rattle.dp_choice.specs.ChoicePrivacy.{HasRoom}
 both-of : (a b : Bool) → (a && b) ≡ true → (a ≡ true) × (b ≡ true)
 both-of true b e = (refl, e)
 both-of false b e = absurd (cc)
-
-range-of : (floor top : ℤ) → is_score_range floor top ≡ true →
-    (neg_ℤ (pos (2 ^ 61)) ≤ℤ floor) × (floor ≤ℤ top) × (top ≤ℤ pos (2 ^ 61)) × ((top -ℤ floor) ≤ℤ pos 65535)
-range-of floor top e =
-    let all = narrow-range floor top (both-of (int_lt floor top) (is_narrow_range floor top) e).1 in
-    (all.0.0, all.0.1, all.0.2, all.1)
 
 nat-le : (t : Bool) (a b : ℕ) → nat_le a b ≡ t → t ≡ true → a ≤ b
 nat-le true a b e h = grind (arith, nat_tests)
@@ -34,12 +28,12 @@ room-of len most p q order e =
     (sum, omega (arith, room))
 
 pub is-choice : (len p q : ℕ) (floor top : ℤ) (low high : ℕ) → p < q → is_choice len p q floor top low high ≡ true →
-    (neg_ℤ (pos (2 ^ 61)) ≤ℤ floor) × (floor ≤ℤ top) × (top ≤ℤ pos (2 ^ 61)) × ((top -ℤ floor) ≤ℤ pos 65535) × (len * weight first_weight low high (nat_abs (top -ℤ floor)) ≤ all_draws) × HasRoom all_draws first_weight len p q floor top low high
+    IsNarrowRange floor top × (len * weight first_weight low high (nat_abs (top -ℤ floor)) ≤ all_draws) × HasRoom all_draws first_weight len p q floor top low high
 is-choice len p q floor top low high order e =
     let both = both-of (is_score_range floor top) _ e in
-    let range = range-of floor top both.0 in
+    let range = narrow-range floor top (both-of (int_lt floor top) (is_narrow_range floor top) both.0).1 in
     let room = room-of len (weight first_weight low high (nat_abs (top -ℤ floor))) p q order both.1 in
-    (range.0, range.1, range.2, range.3, room.0, room.1)
+    (range, room.0, room.1)
 
 fits-word : (z : ℤ) → neg_ℤ (pos (2 ^ 61)) ≤ℤ z → z ≤ℤ pos (2 ^ 61) → SFits w64 z
 fits-word z least greatest = omega (arith, ints)

@@ -4,7 +4,7 @@ ghost use Rattle.std.specs.Result.{result_ok};
 ghost use Rattle.std.specs.List.{sum};
 ghost use Rattle.dp_count.specs.Faults.{HasCause};
 ghost use Rattle.dp_draws.specs.Taking.{take_draws};
-ghost use Rattle.dp_domain.specs.Domains.{Fits, Has};
+ghost use Rattle.dp_domain.specs.Domains.{number_limit, Fits, Has};
 ghost use Rattle.dp_domain.specs.Ranges.{clamped};
 ghost use Rattle.dp_domain.proofs.Limits.{Fits-prop};
 ghost use Rattle.dp_domain.specs.declared.domains.Domain.TheVariants as domain;
@@ -51,9 +51,9 @@ pub struct Choice {
     ghost high_is: { high ≡ ratio.q ^ u },
     ghost positive: { 1 ≤ low },
     ghost below_one: { low < high },
-    ghost least: { neg_ℤ (pos (2 ^ 61)) ≤ℤ floor },
+    ghost least: { neg_ℤ (pos number_limit) ≤ℤ floor },
     ghost ordered: { floor ≤ℤ top },
-    ghost greatest: { top ≤ℤ pos (2 ^ 61) },
+    ghost greatest: { top ≤ℤ pos number_limit },
     ghost narrow: { (top -ℤ floor) ≤ℤ pos 65535 },
     ghost table_is: { table.items ≡ weight_table first_weight low high (nat_abs (top -ℤ floor)) },
     ghost sum_fits: { len * weight first_weight low high (nat_abs (top -ℤ floor)) ≤ all_draws },

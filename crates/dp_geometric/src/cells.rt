@@ -3,6 +3,7 @@ ghost use Rattle.std.specs.Option.{option_map};
 ghost use Rattle.std.specs.Result.{result_ok};
 ghost use Rattle.dp_count.specs.Faults.{HasCause};
 ghost use Rattle.dp_draws.specs.Taking.{take_draws};
+ghost use Rattle.dp_domain.specs.Domains.{number_limit};
 ghost use Rattle.dp_domain.specs.Ranges.{clamped};
 ghost use Rattle.dp_geometric.specs.OneCell.{cell_shape, cell_out, noise, width};
 ghost use Rattle.dp_geometric.specs.CellLaw.{CellCounts, CellPrivate};
@@ -26,9 +27,9 @@ pub struct Cell {
     pub low: u64,
     /// The greater number of the ratio.
     pub high: u64,
-    pub ghost least: { neg_ℤ (pos (2 ^ 61)) ≤ℤ lo },
+    pub ghost least: { neg_ℤ (pos number_limit) ≤ℤ lo },
     pub ghost ordered: { lo ≤ℤ hi },
-    pub ghost greatest: { hi ≤ℤ pos (2 ^ 61) },
+    pub ghost greatest: { hi ≤ℤ pos number_limit },
     pub ghost narrow: { (hi -ℤ lo) ≤ℤ pos 65535 },
     pub ghost positive: { 1 ≤ low },
     pub ghost below_one: { low < high },
@@ -39,9 +40,9 @@ impl Cell {
     /// The cell of these numbers, with how many draw lists give each answer on each value, and the privacy of the
     /// answers.
     pub fn new(lo: i64, hi: i64, low: u64, high: u64) -> Cell
-        requires least { neg_ℤ (pos (2 ^ 61)) ≤ℤ lo }
+        requires least { neg_ℤ (pos number_limit) ≤ℤ lo }
         requires ordered { lo ≤ℤ hi }
-        requires greatest { hi ≤ℤ pos (2 ^ 61) }
+        requires greatest { hi ≤ℤ pos number_limit }
         requires narrow { (hi -ℤ lo) ≤ℤ pos 65535 }
         requires positive { 1 ≤ low }
         requires below_one { low < high }

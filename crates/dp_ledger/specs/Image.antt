@@ -1,7 +1,8 @@
 -- The bytes of a ledger: the two numbers of its ratio in four bytes each, and two slots of nine bytes, a total of
 -- eight bytes and a gate of one. Numbers have their lowest byte first.
-use Rattle.std.specs.Prelude.{ℕ, ◌+◌, ◌^◌, ◌==◌, ◌&&◌, Bool, List, ◌∷◌, ◌++◌, length, take, drop, get_or, max, replicate, Option, Some, None, if◌then◌else◌, nat_lt, nat_le}
+use Rattle.std.specs.Prelude.{ℕ, ◌+◌, ◌==◌, ◌&&◌, Bool, List, ◌∷◌, ◌++◌, length, take, drop, get_or, max, replicate, Option, Some, None, if◌then◌else◌, nat_lt, nat_le}
 use Rattle.std.specs.Int.{Width, w32, w64, byte_len, from_le_bytes, to_le_bytes}
+use Rattle.dp_num.specs.Limits.{most_units}
 use Rattle.dp_num.specs.declared.ratio.Ratio.{Ratio}
 use Rattle.dp_ledger.specs.declared.image.Entry.{Entry}
 use Rattle.dp_ledger.specs.declared.slot.Slot.{Slot}
@@ -34,7 +35,7 @@ is_open entry = entry.gate == 1
 
 -- the total of a slot that counts: its gate is open, and its total is at most 2^32
 unfoldable pub counted : Entry → Option ℕ
-counted entry = if is_open entry && nat_le entry.total (2 ^ 32) then Some entry.total else None
+counted entry = if is_open entry && nat_le entry.total most_units then Some entry.total else None
 
 -- the greatest total of two slots, of which one, both or none count
 abbrev pub greatest : Option ℕ → Option ℕ → Option ℕ

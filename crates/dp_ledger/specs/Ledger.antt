@@ -1,6 +1,7 @@
 -- What a ledger is, and when it stands on a disk.
-use Rattle.std.specs.Prelude.{◌≡◌, ◌⊎◌, ◌+◌, ◌^◌, ℕ, Bool, false, List, Option, Some, None, Result, Ok, Err, if◌then◌else◌, nat_lt}
+use Rattle.std.specs.Prelude.{◌≡◌, ◌⊎◌, ◌+◌, ℕ, Bool, false, List, Option, Some, None, Result, Ok, Err, if◌then◌else◌, nat_lt}
 use Rattle.std.specs.Option.{ForSome}
+use Rattle.dp_num.specs.Limits.{most_units}
 use Rattle.dp_num.specs.declared.ratio.Ratio.{Ratio}
 use Rattle.dp_ledger.specs.declared.faults.ChargeFault.{ChargeFault}
 use Rattle.dp_ledger.specs.declared.faults.ChargeFault.TheVariants as charge_fault
@@ -49,7 +50,7 @@ BeforeOrAfter ratio total by content = HasTotal ratio total content ⊎ HasTotal
 abbrev pub refusal : Ledger → ℕ → Option ChargeFault
 refusal ledger by =
     if is_closed ledger then Some charge_fault.Closed
-    else if nat_lt (2 ^ 32) (total_of ledger + by) then Some (charge_fault.Full (total_of ledger) by)
+    else if nat_lt most_units (total_of ledger + by) then Some (charge_fault.Full (total_of ledger) by)
     else None
 
 -- the refusal that a charge answered; a fault of the disk is none

@@ -1,5 +1,5 @@
 -- The command `count DATA DRAWS LO HI`.
-use Rattle.std.specs.Prelude.{ℕ, ℤ, pos, neg_ℤ, ◌-ℤ◌, ◌≤ℤ◌, ◌&&◌, ◌^◌, ◌++◌, true, List, [], ◌∷◌, length, Option, Some, None, Result, Ok, if◌then◌else◌, option_and_then, option_map, codes}
+use Rattle.std.specs.Prelude.{ℕ, ℤ, pos, ◌&&◌, ◌^◌, ◌++◌, true, List, [], ◌∷◌, length, Option, Some, None, Result, Ok, if◌then◌else◌, option_and_then, option_map, codes}
 use Rattle.std.specs.Fmt as fmt
 use Rattle.dp_count.specs.Digits.{signed_decimal}
 use Rattle.dp_io.specs.Shelf.{Files}
@@ -21,13 +21,6 @@ pub record CountForm : Type 0 where
   pub draws_name : List ℕ
   pub lo : ℤ
   pub hi : ℤ
-
--- a range of at most 65,536 numbers, within the limits of a geometric cell
-pub record IsCellRange (lo hi : ℤ) : Type 0 where
-  pub least : neg_ℤ (pos (2 ^ 61)) ≤ℤ lo
-  pub ordered : lo ≤ℤ hi
-  pub greatest : hi ≤ℤ pos (2 ^ 61)
-  pub narrow : (hi -ℤ lo) ≤ℤ pos 65535
 
 -- a range of at most 65,536 numbers by its two bounds, if it is one
 abbrev pub range_if : ℤ → ℤ → Option (ℤ × ℤ)

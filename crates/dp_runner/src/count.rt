@@ -1,9 +1,10 @@
 ghost use Rattle.std.specs.Prelude.{◌≡◌, ◌≢◌, ◌+◌, ◌≤◌, ◌^◌, map, string_bytes, pos, IfOk, OnOk, Ok, Err, IfSome, option_map};
 ghost use Rattle.std.specs.Result.{result_ok};
 ghost use Rattle.dp_count.specs.Faults.{Rose};
+ghost use Rattle.dp_domain.specs.Ranges.{IsNarrowRange};
 ghost use Rattle.dp_runner.specs.Causes.{Answers, Kept, Runs};
 ghost use Rattle.dp_runner.specs.Outcome.{Source, written_last};
-ghost use Rattle.dp_runner.specs.Count.{count_form, count_form_of, range_of, IsCellRange, counted, cell_draws, cell_answer, count_answer, count_written, ratio_low, ratio_high};
+ghost use Rattle.dp_runner.specs.Count.{count_form, count_form_of, range_of, counted, cell_draws, cell_answer, count_answer, count_written, ratio_low, ratio_high};
 
 use crate::stop::Stop;
 use crate::tally::{MOST_RECORDS, count_records};
@@ -29,7 +30,8 @@ pub(crate) struct CountForm<'a> {
 }
 
 impl<'a> Model for CountForm<'a> {
-    ghost use Rattle.dp_runner.specs.Count.{CountForm, IsCellRange};
+    ghost use Rattle.dp_runner.specs.Count.{CountForm};
+    ghost use Rattle.dp_domain.specs.Ranges.{IsNarrowRange};
 
     ghost Value = { CountForm };
 
@@ -40,7 +42,7 @@ impl<'a> Model for CountForm<'a> {
       hi = form.hi;
     } };
 
-    ghost invariant = { λ form. IsCellRange form.lo form.hi };
+    ghost invariant = { λ form. IsNarrowRange form.lo form.hi };
 }
 
 impl CountForm<'_> {
@@ -108,7 +110,7 @@ fn count_form_of<'a>(
 /// The range that two number words spell, if it is one.
 fn range(lo: &str, hi: &str) -> Option<(i64, i64)>
     ensures range { result ≡ range_of lo.now hi.now }
-    ensures within { IfSome result (λ range. IsCellRange range.0 range.1) }
+    ensures within { IfSome result (λ range. IsNarrowRange range.0 range.1) }
 {
     let lo = signed_decimal(lo.as_bytes(), NUMBER_DIGITS)?;
     let hi = signed_decimal(hi.as_bytes(), NUMBER_DIGITS)?;

@@ -26,11 +26,11 @@ invariant_of-result c =
       high_is = made.2;
       positive = below.0;
       below_one = below.1;
-      least = facts.0;
-      ordered = facts.1;
-      greatest = facts.2;
-      narrow = facts.3;
+      least = facts.0.least;
+      ordered = facts.0.ordered;
+      greatest = facts.0.greatest;
+      narrow = facts.0.narrow;
       table_is = given.0;
-      sum_fits = facts.4;
-      room = facts.5;
+      sum_fits = facts.1;
+      room = facts.2;
     }
