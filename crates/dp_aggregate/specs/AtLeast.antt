@@ -32,5 +32,6 @@ at_least_mapping edges lo hi = record {
 
 -- what telling the edges is on a domain and a metric
 abbrev pub at_least_from : List ℤ → Domain → Metric → Result Mapping Refused
-at_least_from edges (domain.Int lo hi) metric = tested (is_absolute metric) (are_edges (pos number_limit) edges) (at_least_mapping edges lo hi)
+at_least_from edges (domain.Int lo hi) metric =
+    tested (is_absolute metric) (are_edges (pos number_limit) edges) (at_least_mapping edges lo hi)
 at_least_from edges _ metric = Err refused.Kind

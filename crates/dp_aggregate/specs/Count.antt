@@ -52,4 +52,6 @@ count_mapping lists = record {
 
 -- what counting is on a domain and a metric
 abbrev pub count_from : Domain → Metric → Result Mapping Refused
-count_from lists metric = if has_lists lists then tested (has_unsized_lists lists && is_symmetric metric) true (count_mapping lists) else Err refused.Kind
+count_from lists metric =
+    if has_lists lists then tested (has_unsized_lists lists && is_symmetric metric) true (count_mapping lists)
+    else Err refused.Kind

@@ -48,5 +48,6 @@ resize_mapping lo hi size fill = record {
 
 -- what resizing is on a domain and a metric
 abbrev pub resize_from : ℕ → ℤ → Domain → Metric → Result Mapping Refused
-resize_from size fill (domain.Ints lo hi given) metric = tested (is_unsized given && is_symmetric metric) (can_resize lo hi size fill) (resize_mapping lo hi size fill)
+resize_from size fill (domain.Ints lo hi given) metric =
+    tested (is_unsized given && is_symmetric metric) (can_resize lo hi size fill) (resize_mapping lo hi size fill)
 resize_from size fill _ metric = Err refused.Kind

@@ -34,7 +34,8 @@ abbrev pub sum_high : ℤ → Option ℕ → ℤ
 sum_high hi None = pos (2 ^ 30) *ℤ int_max (pos 0) hi
 sum_high hi (Some size) = pos size *ℤ hi
 
--- how much a sum changes at most: by the absolute value of an element that comes or goes, and by the range where one is changed
+-- how much a sum changes at most: by the absolute value of an element that comes or goes, and by the range where one
+-- is changed
 abbrev pub sum_factor : ℤ → ℤ → Option ℕ → ℕ
 sum_factor lo hi None = max (nat_abs lo) (nat_abs hi)
 sum_factor lo hi (Some size) = nat_abs (hi -ℤ lo)

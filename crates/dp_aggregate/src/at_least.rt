@@ -83,8 +83,10 @@ impl Transformation for AtLeast {
 
     fn apply(&self, _: Global, v: &Value) -> Result<Value, NoMemory>
         requires { let m = ⟦<AtLeast as Transformation>⟧.mapping self.now in Has m.input_domain v.now }
-        ensures value { let m = ⟦<AtLeast as Transformation>⟧.mapping self.now in IfOk result (λ w. w ≡ m.function v.now) }
-        ensures within { let m = ⟦<AtLeast as Transformation>⟧.mapping self.now in IfOk result (λ w. Has m.output_domain w) }
+        ensures value { let m = ⟦<AtLeast as Transformation>⟧.mapping self.now in
+            IfOk result (λ w. w ≡ m.function v.now) }
+        ensures within { let m = ⟦<AtLeast as Transformation>⟧.mapping self.now in
+            IfOk result (λ w. Has m.output_domain w) }
         ensures given { IsOk result }
     {
         let Value::Int(number) = v else {

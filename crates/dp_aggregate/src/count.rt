@@ -70,8 +70,10 @@ impl Transformation for Count {
 
     fn apply(&self, _: Global, v: &Value) -> Result<Value, NoMemory>
         requires { let m = ⟦<Count as Transformation>⟧.mapping self.now in Has m.input_domain v.now }
-        ensures value { let m = ⟦<Count as Transformation>⟧.mapping self.now in IfOk result (λ w. w ≡ m.function v.now) }
-        ensures within { let m = ⟦<Count as Transformation>⟧.mapping self.now in IfOk result (λ w. Has m.output_domain w) }
+        ensures value { let m = ⟦<Count as Transformation>⟧.mapping self.now in
+            IfOk result (λ w. w ≡ m.function v.now) }
+        ensures within { let m = ⟦<Count as Transformation>⟧.mapping self.now in
+            IfOk result (λ w. Has m.output_domain w) }
         ensures given { IsOk result }
     {
         let length = match v {

@@ -109,7 +109,8 @@ impl Transformation for Sum {
     fn apply(&self, _: Global, v: &Value) -> Result<Value, NoMemory>
         requires { let m = ⟦<Sum as Transformation>⟧.mapping self.now in Has m.input_domain v.now }
         ensures value { let m = ⟦<Sum as Transformation>⟧.mapping self.now in IfOk result (λ w. w ≡ m.function v.now) }
-        ensures within { let m = ⟦<Sum as Transformation>⟧.mapping self.now in IfOk result (λ w. Has m.output_domain w) }
+        ensures within { let m = ⟦<Sum as Transformation>⟧.mapping self.now in
+            IfOk result (λ w. Has m.output_domain w) }
         ensures given { IsOk result }
     {
         let Value::Ints(numbers) = v else {

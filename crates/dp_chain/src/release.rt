@@ -133,7 +133,8 @@ impl Measurement for Release {
     }
 
     ghost law = { λ r. release_law part_mechanism
-        (λ m. measured_law (⟦<Line as Transformation>⟧.mapping m.first) (⟦<AnyMeasurement as Measurement>⟧.mechanism m.second)
+        (λ m. measured_law (⟦<Line as Transformation>⟧.mapping m.first)
+        (⟦<AnyMeasurement as Measurement>⟧.mechanism m.second)
         (line_law m.first) (noise_law m.second) m.domains m.metrics)
         (fraction_of r.ratio) r.domain r.metric r.parts.items r.fits r.suits
         (r.ratio.positive, r.ratio.below_one, r.ratio.small) r.few r.alike };

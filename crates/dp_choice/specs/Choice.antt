@@ -17,7 +17,8 @@ use Rattle.dp_choice.specs.Shares.{chosen_by}
 
 -- the category that is chosen on a value
 abbrev pub choose : ℕ → ℕ → ℕ → ℕ → ℤ → ℤ → Value → List ℕ → List Piece
-choose n first low high floor top (value.IntVec cells) draws = piece.Cat (chosen_by n (weights first low high floor top cells) draws) ∷ []
+choose n first low high floor top (value.IntVec cells) draws =
+    piece.Cat (chosen_by n (weights first low high floor top cells) draws) ∷ []
 choose n first low high floor top _ draws = []
 
 -- no loss at the distance 0; else 2 u d, and one unit for the rounding of the shares. It is about twice what is needed:
@@ -42,11 +43,14 @@ choice = choice_of all_draws first_weight
 
 -- the range of the scores is one, and the greatest of the weights fits
 abbrev pub is_choice : ℕ → ℕ → ℕ → ℤ → ℤ → ℕ → ℕ → Bool
-is_choice len p q floor top low high = is_score_range floor top && weights_fit len (weight first_weight low high (nat_abs (top -ℤ floor))) p q
+is_choice len p q floor top low high =
+    is_score_range floor top && weights_fit len (weight first_weight low high (nat_abs (top -ℤ floor))) p q
 
 -- the table of the weights, or none where there is no choice
 abbrev pub IsFittingTable : ℕ → ℕ → ℕ → ℤ → ℤ → ℕ → ℕ → Option (List ℕ) → Type 0
-IsFittingTable len p q floor top low high (Some table) = (table ≡ weight_table first_weight low high (nat_abs (top -ℤ floor))) × (is_choice len p q floor top low high ≡ true)
+IsFittingTable len p q floor top low high (Some table) =
+    (table ≡ weight_table first_weight low high (nat_abs (top -ℤ floor)))
+    × (is_choice len p q floor top low high ≡ true)
 IsFittingTable len p q floor top low high None = is_choice len p q floor top low high ≡ false
 
 -- the powers are there, the scores are in range, and the weights fit
@@ -58,6 +62,7 @@ choice_with len least most p q u floor top (Some both) = if is_choice len p q fl
 
 -- what weighted choice is on a domain and a metric
 abbrev pub choice_from : ℕ → ℕ → ℕ → ℤ → ℤ → Domain → Metric → Result Mechanism Refused
-choice_from p q u floor top (domain.IntVec len least most) metrics.L1 = choice_with len least most p q u floor top (powers p q u)
+choice_from p q u floor top (domain.IntVec len least most) metrics.L1 =
+    choice_with len least most p q u floor top (powers p q u)
 choice_from p q u floor top (domain.IntVec len least most) metric = Err refused.Metric
 choice_from p q u floor top _ metric = Err refused.Kind

@@ -19,8 +19,11 @@ pub record IsShareOf (n : ℕ) (ws : List ℕ) (j ways : ℕ) : Type 0 where
 -- each cell of a vector has the draws of its share, and no other answer has any: no piece, a piece of another kind,
 -- several pieces, or a category that is no cell's place
 pub record WaysLaw : Type 0 where
-  pub cell : (n first len : ℕ) (lo hi : ℤ) (p q u : ℕ) (floor top : ℤ) (low high : ℕ) (cells : List ℤ) (j : ℕ) → 1 ≤ first → 1 ≤ low → low ≤ high → j < length cells
-      → IsShareOf n (weights first low high floor top cells) j (ways (choice_of n first len lo hi p q u floor top low high) (value.IntVec cells) (piece.Cat j ∷ []))
-  pub other : (n first len : ℕ) (lo hi : ℤ) (p q u : ℕ) (floor top : ℤ) (low high : ℕ) (cells : List ℤ) (answer : List Piece) → 1 ≤ length cells
+  pub cell : (n first len : ℕ) (lo hi : ℤ) (p q u : ℕ) (floor top : ℤ) (low high : ℕ) (cells : List ℤ) (j : ℕ)
+      → 1 ≤ first → 1 ≤ low → low ≤ high → j < length cells
+      → IsShareOf n (weights first low high floor top cells) j
+      (ways (choice_of n first len lo hi p q u floor top low high) (value.IntVec cells) (piece.Cat j ∷ []))
+  pub other : (n first len : ℕ) (lo hi : ℤ) (p q u : ℕ) (floor top : ℤ) (low high : ℕ) (cells : List ℤ)
+      (answer : List Piece) → 1 ≤ length cells
       → ((j : ℕ) → j < length cells → answer ≢ piece.Cat j ∷ [])
       → ways (choice_of n first len lo hi p q u floor top low high) (value.IntVec cells) answer ≡ 0

@@ -39,4 +39,5 @@ is_score_range floor top = int_lt floor top && is_narrow_range floor top
 
 -- the sum of the weights fits, and each cell's share leaves room for the rounding
 abbrev pub weights_fit : ℕ → ℕ → ℕ → ℕ → Bool
-weights_fit len most p q = nat_le (len * most) all_draws && nat_le (len * most * (q + p)) (all_draws * first_weight * (q - p))
+weights_fit len most p q =
+    nat_le (len * most) all_draws && nat_le (len * most * (q + p)) (all_draws * first_weight * (q - p))

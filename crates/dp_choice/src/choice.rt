@@ -63,10 +63,10 @@ pub struct Choice {
 impl Choice {
     /// Weighted choice with `u` units and scores from `floor` to `top` on the domain. `Kind` comes exactly where the
     /// domain is not `IntVec`, `Metric` exactly where it is and the metric is not `L1`, and `Bound` exactly where
-    /// neither comes and the powers p^u and q^u are refused, not -2^61 ≤ floor < top ≤ 2^61, top - floor is greater than
-    /// 65,535, or the weights don't fit: the greatest weight W times the vector's length is greater than 2^62, or that
-    /// product times q + p is greater than 2^62 · 65,536 · (q - p), which leaves no room for rounding the shares. All this
-    /// is tested before memory is taken.
+    /// neither comes and the powers p^u and q^u are refused, not -2^61 ≤ floor < top ≤ 2^61, top - floor is greater
+    /// than 65,535, or the weights don't fit: the greatest weight W times the vector's length is greater than 2^62,
+    /// or that product times q + p is greater than 2^62 · 65,536 · (q - p), which leaves no room for rounding the
+    /// shares. All this is tested before memory is taken.
     pub fn new(
         alloc: Global,
         domain: Domain,
@@ -77,7 +77,8 @@ impl Choice {
         top: i64,
     ) -> Result<Choice, MakeFault>
         requires { Fits domain }
-        ensures { MakesOr ⟦<Choice as Measurement>⟧.mechanism result (choice_from ratio.p ratio.q u floor top domain metric) }
+        ensures { MakesOr ⟦<Choice as Measurement>⟧.mechanism result
+            (choice_from ratio.p ratio.q u floor top domain metric) }
     {
         let Domain::IntVec { len, lo, hi } = domain else {
             return Err(MakeFault::Kind);
@@ -109,8 +110,11 @@ impl Choice {
     /// goes over the cells twice. `Failed` comes exactly where the draw fails.
     pub fn step<D: Draws>(&self, v: &Cells, draws: &mut D) -> Result<u32, Failed>
         requires { let m = ⟦<Choice as Measurement>⟧.mechanism self.now in Has m.input_domain (value.IntVec v.now) }
-        ensures place { let m = ⟦<Choice as Measurement>⟧.mechanism self.now in option_map (λ j. piece.Cat j ∷ []) (result_ok result) ≡ option_map (m.function (value.IntVec v.now)) (take_draws D.step (D.state draws.old) m.shape).draws }
-        ensures last { let m = ⟦<Choice as Measurement>⟧.mechanism self.now in D.state draws.new ≡ (take_draws D.step (D.state draws.old) m.shape).last }
+        ensures place { let m = ⟦<Choice as Measurement>⟧.mechanism self.now in
+            option_map (λ j. piece.Cat j ∷ []) (result_ok result)
+            ≡ option_map (m.function (value.IntVec v.now)) (take_draws D.step (D.state draws.old) m.shape).draws }
+        ensures last { let m = ⟦<Choice as Measurement>⟧.mechanism self.now in
+            D.state draws.new ≡ (take_draws D.step (D.state draws.old) m.shape).last }
         ensures cause { HasCause (D.faults draws.old) (D.faults draws.new) result }
     {
         let draw = draws.below(ALL_DRAWS)?;
@@ -120,7 +124,8 @@ impl Choice {
 
     /// The weight of a cell's score.
     fn weight(&self, cell: i64) -> u64
-        ensures value { result ≡ weight first_weight self.now.low self.now.high (score self.now.floor self.now.top cell) }
+        ensures value { result
+            ≡ weight first_weight self.now.low self.now.high (score self.now.floor self.now.top cell) }
     {
         entry(&self.table, self.score(cell))
     }
@@ -155,7 +160,8 @@ impl Choice {
     /// The sum of the weights of the cells' scores.
     fn total(&self, cells: &[i64]) -> u64
         requires { length cells.now ≡ self.now.len }
-        ensures value { result ≡ sum (weights first_weight self.now.low self.now.high self.now.floor self.now.top cells.now) }
+        ensures value { result
+            ≡ sum (weights first_weight self.now.low self.now.high self.now.floor self.now.top cells.now) }
         ensures few { result ≤ all_draws }
         ensures positive { 1 ≤ result }
     {
@@ -169,10 +175,12 @@ impl Choice {
     /// The last place before which the weights' share of all draws is at most the draw.
     fn place(&self, cells: &[i64], total: u64, draw: u64) -> u32
         requires len { length cells.now ≡ self.now.len }
-        requires total { total ≡ sum (weights first_weight self.now.low self.now.high self.now.floor self.now.top cells.now) }
+        requires total { total
+            ≡ sum (weights first_weight self.now.low self.now.high self.now.floor self.now.top cells.now) }
         requires few { total ≤ all_draws }
         requires positive { 1 ≤ total }
-        ensures { result ≡ chosen all_draws (weights first_weight self.now.low self.now.high self.now.floor self.now.top cells.now) draw }
+        ensures { result ≡ chosen all_draws
+            (weights first_weight self.now.low self.now.high self.now.floor self.now.top cells.now) draw }
     {
         let mut chosen = 0;
         let mut before = 0;
@@ -261,7 +269,8 @@ impl Measurement for Choice {
         draws: &mut D,
     ) -> Result<Answer, ReleaseFault>
         requires { let m = ⟦<Choice as Measurement>⟧.mechanism self.now in Has m.input_domain v.now }
-        ensures released { let m = ⟦<Choice as Measurement>⟧.mechanism self.now in Released D.step m.shape (m.function v.now) (D.state draws.old) result (D.state draws.new) }
+        ensures released { let m = ⟦<Choice as Measurement>⟧.mechanism self.now in
+            Released D.step m.shape (m.function v.now) (D.state draws.old) result (D.state draws.new) }
         ensures cause { ReleaseCause (D.faults draws.old) (D.faults draws.new) result }
         ensures memory_first { MemoryFirst (D.state draws.old) result (D.state draws.new) }
     {
@@ -276,7 +285,9 @@ impl Measurement for Choice {
         Ok(Answer::from_vec(answer))
     }
 
-    ghost law = { λ c. choice_law c.len c.lo c.hi c.ratio.p c.ratio.q c.u c.floor c.top c.low c.high c.input_fits (c.ratio.positive, c.ratio.below_one, c.ratio.small) c.positive c.below_one c.low_is c.high_is c.ordered c.room };
+    ghost law = { λ c. choice_law c.len c.lo c.hi c.ratio.p c.ratio.q c.u c.floor c.top c.low c.high
+        c.input_fits (c.ratio.positive, c.ratio.below_one, c.ratio.small) c.positive c.below_one
+        c.low_is c.high_is c.ordered c.room };
 }
 
 #[cfg(test)]

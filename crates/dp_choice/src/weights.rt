@@ -28,7 +28,8 @@ pub(crate) fn fitting_table(
     requires some { 1 ≤ len }
     requires positive { 1 ≤ low }
     requires order { low ≤ high }
-    ensures { IfOk result (λ table. IsFittingTable len ratio.now.p ratio.now.q floor.now top.now low high (option_map (λ t. t.items) table)) }
+    ensures { IfOk result (λ table.
+        IsFittingTable len ratio.now.p ratio.now.q floor.now top.now low high (option_map (λ t. t.items) table)) }
 {
     if !is_score_range(floor, top) {
         return Ok(None);

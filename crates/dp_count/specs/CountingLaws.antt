@@ -13,12 +13,14 @@ ProductLaw = (front back : List ℕ) (both one other : List ℕ → Bool)
 -- the same where the draws are cut at the length of the first shape
 abbrev pub CutLaw : Type 0
 CutLaw = (front back : List ℕ) (one other : List ℕ → Bool)
-    → count (front ++ back) (λ draws. one (take (length front) draws) && other (drop (length front) draws)) ≡ count front one * count back other
+    → count (front ++ back) (λ draws. one (take (length front) draws) && other (drop (length front) draws))
+    ≡ count front one * count back other
 
 -- a draw that the test does not look at multiplies the number by its bound
 abbrev pub BlockLaw : Type 0
 BlockLaw = (front back : List ℕ) (bound : ℕ) (test rest : List ℕ → Bool)
-    → ((d e : List ℕ) (draw : ℕ) → IsDrawList front d → draw < bound → IsDrawList back e → test (d ++ draw ∷ e) ≡ rest (d ++ e))
+    → ((d e : List ℕ) (draw : ℕ) → IsDrawList front d → draw < bound → IsDrawList back e
+    → test (d ++ draw ∷ e) ≡ rest (d ++ e))
     → count (front ++ bound ∷ back) test ≡ bound * count (front ++ back) rest
 
 -- of the lists of n draws below high, so many begin with exactly g < n draws below low
@@ -58,4 +60,5 @@ AreApart same (x ∷ xs) = ((r : _) → (same r x && list_any (same r) xs) ≡ f
 -- draws whose reply is one of several, none the same as another: the numbers of the single replies add
 abbrev pub PartitionLaw : Type 0 → Type 0
 PartitionLaw R = (same : R → R → Bool) (shape : List ℕ) (out : List ℕ → R) (wanted : List R) → AreApart same wanted
-    → count shape (λ draws. list_any (same (out draws)) wanted) ≡ sum_by (λ reply. count shape (λ draws. same (out draws) reply)) wanted
+    → count shape (λ draws. list_any (same (out draws)) wanted)
+    ≡ sum_by (λ reply. count shape (λ draws. same (out draws) reply)) wanted

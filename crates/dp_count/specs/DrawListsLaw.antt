@@ -20,7 +20,9 @@ ListLaw = (shape : List ℕ) (test : List ℕ → Bool) → count shape test ≡
 
 -- replies that are apart, and are those that are wanted: the numbers of the single replies add
 abbrev pub SetLaw : Type 0 → Type 0
-SetLaw R = (same : R → R → Bool) (shape : List ℕ) (out : List ℕ → R) (wanted : R → Bool) (given : List R) → AreApart same given
+SetLaw R =
+    (same : R → R → Bool) (shape : List ℕ) (out : List ℕ → R) (wanted : R → Bool) (given : List R)
+    → AreApart same given
     → ((draws : List ℕ) → IsDrawList shape draws → wanted (out draws) ≡ list_any (same (out draws)) given)
     → count shape (λ draws. wanted (out draws)) ≡ sum_by (λ reply. count shape (λ draws. same (out draws) reply)) given
 
@@ -28,5 +30,7 @@ SetLaw R = (same : R → R → Bool) (shape : List ℕ) (out : List ℕ → R) (
 abbrev pub SetRatioLaw : Type 0 → Type 0
 SetRatioLaw R = (same : R → R → Bool) → ((x y : R) → Decides (same x y) (x ≡ y))
     → (p q k : ℕ) (front back : List ℕ) (one other : List ℕ → R)
-    → ((reply : R) → KeepsRatio p q k (count front (λ draws. same (one draws) reply)) (count back (λ draws. same (other draws) reply)))
-    → (wanted : R → Bool) → KeepsRatio p q k (count front (λ draws. wanted (one draws))) (count back (λ draws. wanted (other draws)))
+    → ((reply : R)
+    → KeepsRatio p q k (count front (λ draws. same (one draws) reply)) (count back (λ draws. same (other draws) reply)))
+    → (wanted : R → Bool)
+    → KeepsRatio p q k (count front (λ draws. wanted (one draws))) (count back (λ draws. wanted (other draws)))

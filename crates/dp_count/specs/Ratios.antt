@@ -19,7 +19,8 @@ product (x ∷ xs) = x * product xs
 
 -- pairs that keep a ratio multiply, and their exponents add
 abbrev pub RatioProductLaw : Type 0
-RatioProductLaw = (p q j k x y v w : ℕ) → KeepsRatio p q j x y → KeepsRatio p q k v w → KeepsRatio p q (j + k) (x * v) (y * w)
+RatioProductLaw =
+    (p q j k x y v w : ℕ) → KeepsRatio p q j x y → KeepsRatio p q k v w → KeepsRatio p q (j + k) (x * v) (y * w)
 
 -- a pair that keeps a ratio keeps it at every greater exponent
 abbrev pub RatioGrowthLaw : Type 0
@@ -27,8 +28,10 @@ RatioGrowthLaw = (p q j k x y : ℕ) → p ≤ q → j ≤ k → KeepsRatio p q 
 
 -- lists of pairs that keep a ratio: their products keep it at the sum of the exponents
 abbrev pub RatioListLaw : Type 0
-RatioListLaw = (p q : ℕ) (ks xs ys : List ℕ) → KeepRatios p q ks xs ys → KeepsRatio p q (sum ks) (product xs) (product ys)
+RatioListLaw =
+    (p q : ℕ) (ks xs ys : List ℕ) → KeepRatios p q ks xs ys → KeepsRatio p q (sum ks) (product xs) (product ys)
 
 -- lists of pairs that keep a ratio at one exponent: their sums keep it too
 abbrev pub RatioSumLaw : Type 0
-RatioSumLaw = (p q k : ℕ) (xs ys : List ℕ) → KeepRatios p q (replicate (length xs) k) xs ys → KeepsRatio p q k (sum xs) (sum ys)
+RatioSumLaw =
+    (p q k : ℕ) (xs ys : List ℕ) → KeepRatios p q (replicate (length xs) k) xs ys → KeepsRatio p q k (sum xs) (sum ys)

@@ -38,8 +38,8 @@ pub fn partition_law<R>()
     ensures { PartitionLaw R }
 {}
 
-/// Of several slots side by side, the number of draw lists with the wanted replies is the product of the slots' numbers,
-/// and where each slot keeps a ratio, the whole keeps it at the sum of the exponents.
+/// Of several slots side by side, the number of draw lists with the wanted replies is the product of the slots'
+/// numbers, and where each slot keeps a ratio, the whole keeps it at the sum of the exponents.
 pub fn slots_law<R>()
     ensures product { SlotsLaw R }
     ensures ratio { SlotsRatioLaw R }

@@ -1,6 +1,6 @@
 //! What every crate stands on: the two shared faults, what it means that a count of faults rose, the list type
-//! whose contracts see a list, the reader of decimal digits, the shape of draw lists, and the laws of the number of draw
-//! lists that meet a test.
+//! whose contracts see a list, the reader of decimal digits, the shape of draw lists, and the laws of the number of
+//! draw lists that meet a test.
 #![tactic(auto)]
 
 mod digits;

@@ -19,23 +19,33 @@ SymmetricLaw E = (same : E → E → Bool) → TellsApart same → (xs ys : List
 
 -- a way round is no shorter
 abbrev pub TriangleLaw : Type 0 → Type 0
-TriangleLaw E = (same : E → E → Bool) → TellsApart same → (xs ys zs : List E) → diff same xs zs ≤ diff same xs ys + diff same ys zs
+TriangleLaw E =
+    (same : E → E → Bool) → TellsApart same → (xs ys zs : List E)
+    → diff same xs zs ≤ diff same xs ys + diff same ys zs
 
 -- order plays no part: a list may be put in another order
 abbrev pub ReorderLaw : Type 0 → Type 0
-ReorderLaw E = (same : E → E → Bool) → TellsApart same → (xs ys zs : List E) → IsPermutation xs ys → diff same xs zs ≡ diff same ys zs
+ReorderLaw E =
+    (same : E → E → Bool) → TellsApart same → (xs ys zs : List E) → IsPermutation xs ys
+    → diff same xs zs ≡ diff same ys zs
 
 -- lists have distance 0 where they are the same in another order, and nowhere else
 abbrev pub OrderLaw : Type 0 → Type 0
-OrderLaw E = (same : E → E → Bool) → TellsApart same → (xs ys : List E) → (IsPermutation xs ys → diff same xs ys ≡ 0) × (diff same xs ys ≡ 0 → IsPermutation xs ys)
+OrderLaw E =
+    (same : E → E → Bool) → TellsApart same → (xs ys : List E)
+    → (IsPermutation xs ys → diff same xs ys ≡ 0) × (diff same xs ys ≡ 0 → IsPermutation xs ys)
 
 -- some split leaves as many elements as the distance
 abbrev pub SplitLaw : Type 0 → Type 0
-SplitLaw E = (same : E → E → Bool) → TellsApart same → (xs ys : List E) → (s : Split xs ys) × (length s.left + length s.right ≡ diff same xs ys)
+SplitLaw E =
+    (same : E → E → Bool) → TellsApart same → (xs ys : List E)
+    → (s : Split xs ys) × (length s.left + length s.right ≡ diff same xs ys)
 
 -- and no split leaves fewer
 abbrev pub LeastSplitLaw : Type 0 → Type 0
-LeastSplitLaw E = (same : E → E → Bool) → TellsApart same → (xs ys : List E) (s : Split xs ys) → diff same xs ys ≤ length s.left + length s.right
+LeastSplitLaw E =
+    (same : E → E → Bool) → TellsApart same → (xs ys : List E) (s : Split xs ys)
+    → diff same xs ys ≤ length s.left + length s.right
 
 -- a map of each element to at most one element does not raise the distance
 abbrev pub FilterMapLaw : Type 0 → Type 0 → Type 0
@@ -49,11 +59,14 @@ MapLaw E F = (same : E → E → Bool) → TellsApart same → (other : F → F 
 
 -- nor does a filter
 abbrev pub FilterLaw : Type 0 → Type 0
-FilterLaw E = (same : E → E → Bool) → TellsApart same → (p : E → Bool) (xs ys : List E) → diff same (filter p xs) (filter p ys) ≤ diff same xs ys
+FilterLaw E =
+    (same : E → E → Bool) → TellsApart same → (p : E → Bool) (xs ys : List E)
+    → diff same (filter p xs) (filter p ys) ≤ diff same xs ys
 
 -- the lengths are apart by at most the distance
 abbrev pub LengthLaw : Type 0 → Type 0
-LengthLaw E = (same : E → E → Bool) → TellsApart same → (xs ys : List E) → apart (length xs) (length ys) ≤ diff same xs ys
+LengthLaw E =
+    (same : E → E → Bool) → TellsApart same → (xs ys : List E) → apart (length xs) (length ys) ≤ diff same xs ys
 
 -- each weight is from lo to hi
 abbrev pub WeighBetween : {E : Type 0} → (E → ℤ) → ℤ → ℤ → List E → Type 0
@@ -74,7 +87,8 @@ EvenSumLaw E = (same : E → E → Bool) → TellsApart same → (weight : E →
 -- histograms over n categories are apart by at most the distance
 abbrev pub HistogramLaw : Type 0 → Type 0
 HistogramLaw E = (same : E → E → Bool) → TellsApart same → (n : ℕ) (f : E → ℕ) (xs ys : List E)
-    → l1 (map (λ k. pos (occurrences nat_eq (map f xs) k)) (range_with_len 0 n)) (map (λ k. pos (occurrences nat_eq (map f ys) k)) (range_with_len 0 n)) ≤ diff same xs ys
+    → l1 (map (λ k. pos (occurrences nat_eq (map f xs) k)) (range_with_len 0 n))
+    (map (λ k. pos (occurrences nat_eq (map f ys) k)) (range_with_len 0 n)) ≤ diff same xs ys
 
 -- values within a distance are within every greater one
 abbrev pub WiderLaw : Type 0

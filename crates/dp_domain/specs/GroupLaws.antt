@@ -78,8 +78,8 @@ PartsFilterLaw E K = (by : Grouping E K) (p : E → Bool) (xs ys : List E)
 abbrev pub HasMost : {E K : Type 0} → Grouping E K → ℕ → List E → Type 0
 HasMost {E} {K} by most xs = (k : K) → length (part by xs k) ≤ most
 
--- where us and vs have at most so many elements a group, and a group differs only where that of xs and ys does, us and vs
--- are apart by at most twice so many elements for each group of xs and ys that differs
+-- where us and vs have at most so many elements a group, and a group differs only where that of xs and ys does, us
+-- and vs are apart by at most twice so many elements for each group of xs and ys that differs
 abbrev pub FewLaw : Type 0 → Type 0 → Type 0
 FewLaw E K = (by : Grouping E K) (most : ℕ) (xs ys us vs : List E) → HasMost by most us → HasMost by most vs
     → ((k : K) → part_diff by xs ys k ≡ 0 → part_diff by us vs k ≡ 0)

@@ -11,7 +11,8 @@ group same_key key k xs = filter (λ x. same_key (key x) k) xs
 -- how many keys of the two lists have groups that differ
 unfoldable pub groups_apart : {E K : Type 0} → (K → K → Bool) → (E → K) → (E → E → Bool) → List E → List E → ℕ
 groups_apart same_key key same xs ys =
-    count_by (λ k. nat_lt 0 (diff same (group same_key key k xs) (group same_key key k ys))) (distinct same_key (map key (xs ++ ys)))
+    count_by (λ k. nat_lt 0 (diff same (group same_key key k xs) (group same_key key k ys)))
+    (distinct same_key (map key (xs ++ ys)))
 
 -- the cell of a record in a column, from 0
 abbrev pub cell : ℕ → List (List ℕ) → List ℕ

@@ -1,5 +1,5 @@
-//! The laws of the distance of two lists in any order, and of groups of their elements by a key. Each is the contract of
-//! a function that does nothing. `E` and `F` are types of elements, `K` is a type of keys.
+//! The laws of the distance of two lists in any order, and of groups of their elements by a key. Each is the contract
+//! of a function that does nothing. `E` and `F` are types of elements, `K` is a type of keys.
 ghost use Rattle.dp_domain.specs.DistanceLaws.{SymmetricLaw, TriangleLaw, ReorderLaw, OrderLaw, SplitLaw, LeastSplitLaw, FilterMapLaw, MapLaw, FilterLaw, LengthLaw, SumLaw, EvenSumLaw, HistogramLaw, WiderLaw, SelfLaw};
 ghost use Rattle.dp_domain.specs.GroupLaws.{PartsSymmetricLaw, PartsReorderLaw, PartsOrderLaw, MostPartsLaw, CoverPartsLaw, PartSumLaw, CoverSumLaw, PartsFilterLaw, FewLaw};
 
@@ -43,16 +43,16 @@ pub fn wider_law()
     ensures itself { SelfLaw }
 {}
 
-/// The number of groups that differ, by a key, is the same either way round and in any order, and 0 exactly for lists that
-/// are the same in another order.
+/// The number of groups that differ, by a key, is the same either way round and in any order, and 0 exactly for lists
+/// that are the same in another order.
 pub fn group_law<E, K>()
     ensures symmetric { PartsSymmetricLaw E K }
     ensures reorder { PartsReorderLaw E K }
     ensures none { PartsOrderLaw E K }
 {}
 
-/// Different keys give no more groups that differ, and as many where they cover both lists; their groups are together no
-/// further apart than the lists, and as far where they cover both.
+/// Different keys give no more groups that differ, and as many where they cover both lists; their groups are together
+/// no further apart than the lists, and as far where they cover both.
 pub fn key_law<E, K>()
     ensures most { MostPartsLaw E K }
     ensures cover { CoverPartsLaw E K }

@@ -3,7 +3,8 @@
 pub enum Metric {
     /// How many elements have to be added or taken away to make one list the other, in any order.
     Symmetric,
-    /// How many persons' records differ, in any order: the texts in the column of that number, from 0, name the persons.
+    /// How many persons' records differ, in any order: the texts in the column of that number, from 0, name the
+    /// persons.
     Users(u32),
     /// How many elements have to be changed to make one list the other of the same length, in any order.
     ChangeOne,

@@ -19,11 +19,14 @@ away lo hi v a = distance (clamped lo hi v) a
 
 -- the numbers of draw lists: between the ends, at the two ends, where there is one answer alone, and outside
 pub record CellCounts (lo hi : ℤ) (low high : ℕ) : Type 0 where
-  pub inside : (v a : ℤ) → lo <ℤ a → a <ℤ hi → ways lo hi low high v a ≡ (high - low) * low ^ away lo hi v a * high ^ (width lo hi - away lo hi v a)
-  pub ends : (v a : ℤ) → lo <ℤ hi → (a ≡ lo) ⊎ (a ≡ hi) → ways lo hi low high v a ≡ high * low ^ away lo hi v a * high ^ (width lo hi - away lo hi v a)
+  pub inside : (v a : ℤ) → lo <ℤ a → a <ℤ hi
+      → ways lo hi low high v a ≡ (high - low) * low ^ away lo hi v a * high ^ (width lo hi - away lo hi v a)
+  pub ends : (v a : ℤ) → lo <ℤ hi → (a ≡ lo) ⊎ (a ≡ hi)
+      → ways lo hi low high v a ≡ high * low ^ away lo hi v a * high ^ (width lo hi - away lo hi v a)
   pub single : (v a : ℤ) → lo ≡ hi → a ≡ lo → ways lo hi low high v a ≡ high + low
   pub outside : (v a : ℤ) → (a <ℤ lo) ⊎ (hi <ℤ a) → ways lo hi low high v a ≡ 0
 
 -- for values at most e apart, the numbers of each answer differ by a factor of at most (high / low) ^ e
 unfoldable pub CellPrivate : ℤ → ℤ → ℕ → ℕ → Type 0
-CellPrivate lo hi low high = (v w a : ℤ) (e : ℕ) → distance v w ≤ e → ways lo hi low high v a * low ^ e ≤ high ^ e * ways lo hi low high w a
+CellPrivate lo hi low high =
+    (v w a : ℤ) (e : ℕ) → distance v w ≤ e → ways lo hi low high v a * low ^ e ≤ high ^ e * ways lo hi low high w a

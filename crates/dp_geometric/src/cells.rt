@@ -60,8 +60,13 @@ impl Cell {
     /// An answer on `v`: one draw below `high` + `low` and then `hi` - `lo` draws below `high` are taken. `Failed`
     /// comes exactly where one of these draws fails.
     pub fn step<D: Draws>(&self, v: i64, draws: &mut D) -> Result<i64, Failed>
-        ensures answer { result_ok result ≡ option_map (cell_out self.now.lo self.now.hi self.now.low self.now.high v) (take_draws D.step (D.state draws.old) (cell_shape self.now.lo self.now.hi self.now.low self.now.high)).draws }
-        ensures last { D.state draws.new ≡ (take_draws D.step (D.state draws.old) (cell_shape self.now.lo self.now.hi self.now.low self.now.high)).last }
+        ensures answer { result_ok result
+            ≡ option_map (cell_out self.now.lo self.now.hi self.now.low self.now.high v)
+            (take_draws D.step (D.state draws.old)
+            (cell_shape self.now.lo self.now.hi self.now.low self.now.high)).draws }
+        ensures last { D.state draws.new
+            ≡ (take_draws D.step (D.state draws.old)
+            (cell_shape self.now.lo self.now.hi self.now.low self.now.high)).last }
         ensures cause { HasCause (D.faults draws.old) (D.faults draws.new) result }
     {
         let first = draws.below(self.high + self.low)?;

@@ -48,7 +48,8 @@ impl Geometric {
         hi: i64,
     ) -> Result<Geometric, Refused>
         requires { Fits domain }
-        ensures { Makes ⟦<Geometric as Measurement>⟧.mechanism result (geometric_from ratio.p ratio.q u lo hi domain metric) }
+        ensures { Makes ⟦<Geometric as Measurement>⟧.mechanism result
+            (geometric_from ratio.p ratio.q u lo hi domain metric) }
     {
         if let Some(refusal) = kind_refusal(domain, metric) {
             return Err(refusal);
@@ -114,7 +115,8 @@ impl Measurement for Geometric {
         draws: &mut D,
     ) -> Result<Answer, ReleaseFault>
         requires { let m = ⟦<Geometric as Measurement>⟧.mechanism self.now in Has m.input_domain v.now }
-        ensures released { let m = ⟦<Geometric as Measurement>⟧.mechanism self.now in Released D.step m.shape (m.function v.now) (D.state draws.old) result (D.state draws.new) }
+        ensures released { let m = ⟦<Geometric as Measurement>⟧.mechanism self.now in
+            Released D.step m.shape (m.function v.now) (D.state draws.old) result (D.state draws.new) }
         ensures cause { ReleaseCause (D.faults draws.old) (D.faults draws.new) result }
         ensures memory_first { MemoryFirst (D.state draws.old) result (D.state draws.new) }
     {
@@ -127,7 +129,9 @@ impl Measurement for Geometric {
         }
     }
 
-    ghost law = { λ g. geometric_law g.input g.cell.lo g.cell.hi g.ratio.p g.ratio.q g.u g.cell.low g.cell.high g.input_fits g.numeric (g.ratio.positive, g.ratio.below_one, g.ratio.small) g.low_is g.high_is g.cell.ordered g.cell.narrow g.cell.below_one g.cell.bounded };
+    ghost law = { λ g. geometric_law g.input g.cell.lo g.cell.hi g.ratio.p g.ratio.q g.u g.cell.low g.cell.high
+        g.input_fits g.numeric (g.ratio.positive, g.ratio.below_one, g.ratio.small) g.low_is g.high_is
+        g.cell.ordered g.cell.narrow g.cell.below_one g.cell.bounded };
 }
 
 /// The refusal by the domain's kind and the metric, if there is one.
@@ -179,7 +183,9 @@ fn release_number<D: Draws>(
     number: i64,
     draws: &mut D,
 ) -> Result<Answer, ReleaseFault>
-    ensures released { Released D.step (cell_shape cell.now.lo cell.now.hi cell.now.low cell.now.high) (add_noise cell.now.lo cell.now.hi cell.now.low cell.now.high (value.Int number)) (D.state draws.old) result (D.state draws.new) }
+    ensures released { Released D.step (cell_shape cell.now.lo cell.now.hi cell.now.low cell.now.high)
+        (add_noise cell.now.lo cell.now.hi cell.now.low cell.now.high (value.Int number)) (D.state draws.old) result
+        (D.state draws.new) }
     ensures cause { ReleaseCause (D.faults draws.old) (D.faults draws.new) result }
     ensures memory_first { MemoryFirst (D.state draws.old) result (D.state draws.new) }
 {
@@ -199,7 +205,10 @@ fn release_vector<D: Draws>(
     numbers: &[i64],
     draws: &mut D,
 ) -> Result<Answer, ReleaseFault>
-    ensures released { Released D.step (cells_shape (length numbers.now) cell.now.lo cell.now.hi cell.now.low cell.now.high) (add_noise cell.now.lo cell.now.hi cell.now.low cell.now.high (value.IntVec numbers.now)) (D.state draws.old) result (D.state draws.new) }
+    ensures released { Released D.step
+        (cells_shape (length numbers.now) cell.now.lo cell.now.hi cell.now.low cell.now.high)
+        (add_noise cell.now.lo cell.now.hi cell.now.low cell.now.high (value.IntVec numbers.now))
+        (D.state draws.old) result (D.state draws.new) }
     ensures cause { ReleaseCause (D.faults draws.old) (D.faults draws.new) result }
     ensures memory_first { MemoryFirst (D.state draws.old) result (D.state draws.new) }
 {
@@ -221,8 +230,13 @@ fn step_each<D: Draws>(
 ) -> Result<(), Failed>
     requires empty { given.old.items ≡ [] }
     requires room { length numbers.now ≤ vec_capacity given.old }
-    ensures answers { option_map (λ _. given.new.items) (result_ok result) ≡ option_map (cells_out cell.now.lo cell.now.hi cell.now.low cell.now.high numbers.now) (take_draws D.step (D.state draws.old) (cells_shape (length numbers.now) cell.now.lo cell.now.hi cell.now.low cell.now.high)).draws }
-    ensures last { D.state draws.new ≡ (take_draws D.step (D.state draws.old) (cells_shape (length numbers.now) cell.now.lo cell.now.hi cell.now.low cell.now.high)).last }
+    ensures answers { option_map (λ _. given.new.items) (result_ok result)
+        ≡ option_map (cells_out cell.now.lo cell.now.hi cell.now.low cell.now.high numbers.now)
+        (take_draws D.step (D.state draws.old)
+        (cells_shape (length numbers.now) cell.now.lo cell.now.hi cell.now.low cell.now.high)).draws }
+    ensures last { D.state draws.new
+        ≡ (take_draws D.step (D.state draws.old)
+        (cells_shape (length numbers.now) cell.now.lo cell.now.hi cell.now.low cell.now.high)).last }
     ensures cause { HasCause (D.faults draws.old) (D.faults draws.new) result }
 {
     for number in numbers {

@@ -17,7 +17,8 @@ pub(crate) fn leading_run<D: Draws>(
 ) -> Result<u64, Failed>
     requires positive { 1 ≤ high }
     requires bounded { high ≤ 2 ^ 62 }
-    ensures run { result_ok result ≡ option_map (leading_run low) (take_draws D.step (D.state draws.old) (replicate turns high)).draws }
+    ensures run { result_ok result
+        ≡ option_map (leading_run low) (take_draws D.step (D.state draws.old) (replicate turns high)).draws }
     ensures last { D.state draws.new ≡ (take_draws D.step (D.state draws.old) (replicate turns high)).last }
     ensures cause { HasCause (D.faults draws.old) (D.faults draws.new) result }
     ensures few { IfOk result (λ run. run ≤ turns) }

@@ -41,7 +41,8 @@ both one other = record {
   input_metric = one.input_metric;
   ratio = one.ratio;
   shape = one.shape ++ other.shape;
-  function = λ v draws. one.function v (take (length one.shape) draws) ++ other.function v (drop (length one.shape) draws);
+  function = λ v draws. one.function v (take (length one.shape) draws)
+      ++ other.function v (drop (length one.shape) draws);
   pieces = one.pieces + other.pieces;
   privacy_map = λ d. added (one.privacy_map d) (other.privacy_map d);
 }

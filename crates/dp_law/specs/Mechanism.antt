@@ -43,7 +43,9 @@ pub record IsPrivate (m : Mechanism) : Type 0 where
   pub few_draws : length m.shape ≤ 2 ^ 40
   pub bounds : All IsBound m.shape
   pub few_pieces : m.pieces ≤ 2 ^ 31
-  pub whole : (v : Value) (draws : List ℕ) → Has m.input_domain v → IsDrawList m.shape draws → length (m.function v draws) ≡ m.pieces
+  pub whole : (v : Value) (draws : List ℕ) → Has m.input_domain v → IsDrawList m.shape draws
+      → length (m.function v draws) ≡ m.pieces
   pub limited : (d k : ℕ) → m.privacy_map d ≡ Some k → k ≤ 2 ^ 32
-  pub private : (d k : ℕ) (v w : Value) (answer : List Piece) → m.privacy_map d ≡ Some k → Has m.input_domain v → Has m.input_domain w
+  pub private : (d k : ℕ) (v w : Value) (answer : List Piece) → m.privacy_map d ≡ Some k → Has m.input_domain v
+      → Has m.input_domain w
       → Within m.input_metric d v w → KeepsRatio m.ratio.p m.ratio.q k (ways m v answer) (ways m w answer)

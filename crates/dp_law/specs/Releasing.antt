@@ -8,13 +8,17 @@ use Rattle.dp_law.specs.declared.faults.ReleaseFault.TheVariants as fault
 
 -- the state after is where taking some first part of the shape leaves the state before
 abbrev pub TakesFront : (List ℕ → ℕ → Turn) → List ℕ → List ℕ → List ℕ → Type 0
-TakesFront step shape before after = (front rest draws : List ℕ) × (shape ≡ front ++ rest) × (take_draws step before front ≡ record { draws = Some draws; last = after })
+TakesFront step shape before after =
+    (front rest draws : List ℕ) × (shape ≡ front ++ rest)
+    × (take_draws step before front ≡ record { draws = Some draws; last = after })
 
 -- an answer is the function's on the draws that are taken for the shape, and a draw fault comes where they can't be
 -- taken; after both the source is in taking's last state; without memory some first part was taken
-abbrev pub Released : (List ℕ → ℕ → Turn) → List ℕ → (List ℕ → List Piece) → List ℕ → Result (List Piece) ReleaseFault → List ℕ → Type 0
+abbrev pub Released : (List ℕ → ℕ → Turn) → List ℕ → (List ℕ → List Piece) → List ℕ → Result (List Piece) ReleaseFault
+    → List ℕ → Type 0
 Released step shape function before (Ok answer) after =
-    (Some answer ≡ option_map function (take_draws step before shape).draws) × (after ≡ (take_draws step before shape).last)
+    (Some answer ≡ option_map function (take_draws step before shape).draws)
+    × (after ≡ (take_draws step before shape).last)
 Released step shape function before (Err fault.DrawFault) after =
     ((take_draws step before shape).draws ≡ None) × (after ≡ (take_draws step before shape).last)
 Released step shape function before (Err fault.NoMemory) after = TakesFront step shape before after

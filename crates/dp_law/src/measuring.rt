@@ -13,9 +13,9 @@ use dp_num::Past;
 use std::alloc::Global;
 
 /// A private measurement: a function from a value and draws to an answer, with a privacy map, which says by how many
-/// units of loss the numbers of draw lists of one answer can differ on values that are so far apart. A unit is one factor
-/// of the measurement's ratio. Its law says that the input domain fits, that shape and answers keep their limits, and
-/// that the privacy map holds.
+/// units of loss the numbers of draw lists of one answer can differ on values that are so far apart. A unit is one
+/// factor of the measurement's ratio. Its law says that the input domain fits, that shape and answers keep their
+/// limits, and that the privacy map holds.
 pub trait Measurement {
     ghost mechanism: { Self → Mechanism };
 
@@ -54,7 +54,8 @@ pub trait Measurement {
         draws: &mut D,
     ) -> Result<Answer, ReleaseFault>
         requires { let m = mechanism self.now in Has m.input_domain v.now }
-        ensures released { let m = mechanism self.now in Released D.step m.shape (m.function v.now) (D.state draws.old) result (D.state draws.new) }
+        ensures released { let m = mechanism self.now in
+            Released D.step m.shape (m.function v.now) (D.state draws.old) result (D.state draws.new) }
         ensures cause { ReleaseCause (D.faults draws.old) (D.faults draws.new) result };
 
     ghost law: { (m : Self) → IsPrivate (mechanism m) };

@@ -73,8 +73,11 @@ impl Response {
     /// exactly where that draw fails.
     pub fn step<D: Draws>(&self, v: u32, draws: &mut D) -> Result<u32, Failed>
         requires { let m = ⟦<Response as Measurement>⟧.mechanism self.now in Has m.input_domain (value.Cat v) }
-        ensures reply { let m = ⟦<Response as Measurement>⟧.mechanism self.now in option_map (λ a. piece.Cat a ∷ []) (result_ok result) ≡ option_map (m.function (value.Cat v)) (take_draws D.step (D.state draws.old) m.shape).draws }
-        ensures last { let m = ⟦<Response as Measurement>⟧.mechanism self.now in D.state draws.new ≡ (take_draws D.step (D.state draws.old) m.shape).last }
+        ensures reply { let m = ⟦<Response as Measurement>⟧.mechanism self.now in
+            option_map (λ a. piece.Cat a ∷ []) (result_ok result)
+            ≡ option_map (m.function (value.Cat v)) (take_draws D.step (D.state draws.old) m.shape).draws }
+        ensures last { let m = ⟦<Response as Measurement>⟧.mechanism self.now in
+            D.state draws.new ≡ (take_draws D.step (D.state draws.old) m.shape).last }
         ensures cause { HasCause (D.faults draws.old) (D.faults draws.new) result }
     {
         let draw = draws.below(self.draw_bound())?;
@@ -140,7 +143,8 @@ impl Measurement for Response {
         draws: &mut D,
     ) -> Result<Answer, ReleaseFault>
         requires { let m = ⟦<Response as Measurement>⟧.mechanism self.now in Has m.input_domain v.now }
-        ensures released { let m = ⟦<Response as Measurement>⟧.mechanism self.now in Released D.step m.shape (m.function v.now) (D.state draws.old) result (D.state draws.new) }
+        ensures released { let m = ⟦<Response as Measurement>⟧.mechanism self.now in
+            Released D.step m.shape (m.function v.now) (D.state draws.old) result (D.state draws.new) }
         ensures cause { ReleaseCause (D.faults draws.old) (D.faults draws.new) result }
         ensures memory_first { MemoryFirst (D.state draws.old) result (D.state draws.new) }
     {
@@ -153,7 +157,8 @@ impl Measurement for Response {
         Ok(Answer::from_vec(answer))
     }
 
-    ghost law = { λ r. response_law r.n r.ratio.p r.ratio.q r.u r.low r.high r.input_fits (r.ratio.positive, r.ratio.below_one, r.ratio.small) r.positive r.below_one r.low_is r.high_is r.bounded };
+    ghost law = { λ r. response_law r.n r.ratio.p r.ratio.q r.u r.low r.high r.input_fits
+        (r.ratio.positive, r.ratio.below_one, r.ratio.small) r.positive r.below_one r.low_is r.high_is r.bounded };
 }
 
 /// Whether the bound of the draw is at most 2^62.

@@ -31,5 +31,6 @@ bins_mapping edges lo hi size = record {
 
 -- what bins are on a domain and a metric
 abbrev pub bins_from : List ℤ → Domain → Metric → Result Mapping Refused
-bins_from edges (domain.Ints lo hi size) metric = tested (is_list_metric size metric) (are_edges (pos item_limit) edges) (bins_mapping edges lo hi size)
+bins_from edges (domain.Ints lo hi size) metric =
+    tested (is_list_metric size metric) (are_edges (pos item_limit) edges) (bins_mapping edges lo hi size)
 bins_from edges _ metric = Err refused.Kind

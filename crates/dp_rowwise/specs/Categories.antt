@@ -42,5 +42,6 @@ categories_mapping texts = record {
 
 -- what categories are on a domain and a metric
 abbrev pub categories_from : List (List ℕ) → Domain → Metric → Result Mapping Refused
-categories_from texts domain.Texts metric = tested (is_symmetric metric) (few_and_one (length texts) && are_different texts) (categories_mapping texts)
+categories_from texts domain.Texts metric =
+    tested (is_symmetric metric) (few_and_one (length texts) && are_different texts) (categories_mapping texts)
 categories_from texts _ metric = Err refused.Kind

@@ -31,5 +31,6 @@ clamp_mapping lo hi from_lo from_hi size = record {
 
 -- what clamping is on a domain and a metric
 abbrev pub clamp_from : ℤ → ℤ → Domain → Metric → Result Mapping Refused
-clamp_from lo hi (domain.Ints from_lo from_hi size) metric = tested (is_list_metric size metric) (is_range item_limit lo hi) (clamp_mapping lo hi from_lo from_hi size)
+clamp_from lo hi (domain.Ints from_lo from_hi size) metric =
+    tested (is_list_metric size metric) (is_range item_limit lo hi) (clamp_mapping lo hi from_lo from_hi size)
 clamp_from lo hi _ metric = Err refused.Kind

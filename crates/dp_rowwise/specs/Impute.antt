@@ -34,5 +34,6 @@ impute_mapping number lo hi = record {
 
 -- what imputing is on a domain and a metric
 abbrev pub impute_from : ℤ → Domain → Metric → Result Mapping Refused
-impute_from number (domain.OptInts lo hi) metric = tested (is_symmetric metric) (is_between lo hi number) (impute_mapping number lo hi)
+impute_from number (domain.OptInts lo hi) metric =
+    tested (is_symmetric metric) (is_between lo hi number) (impute_mapping number lo hi)
 impute_from number _ metric = Err refused.Kind

@@ -31,5 +31,6 @@ select_mapping column columns = record {
 
 -- what selecting is on a domain and a metric
 abbrev pub select_from : ℕ → Domain → Metric → Result Mapping Refused
-select_from column (domain.Rows columns) metric = tested (is_symmetric metric) (nat_lt column columns) (select_mapping column columns)
+select_from column (domain.Rows columns) metric =
+    tested (is_symmetric metric) (nat_lt column columns) (select_mapping column columns)
 select_from column _ metric = Err refused.Kind

@@ -27,9 +27,9 @@ pub struct Bins {
 }
 
 impl Bins {
-    /// The bins between the edges. `Kind` comes exactly where the domain is not `Ints`, `Metric` exactly where it is and
-    /// the metric is not that of its size, and `Bound` exactly where neither comes and the edges are not 1 to 1,023
-    /// strictly rising numbers from -2^31 to 2^31.
+    /// The bins between the edges. `Kind` comes exactly where the domain is not `Ints`, `Metric` exactly where it is
+    /// and the metric is not that of its size, and `Bound` exactly where neither comes and the edges are not 1 to
+    /// 1,023 strictly rising numbers from -2^31 to 2^31.
     pub fn new(domain: Domain, metric: Metric, edges: Vec<i64>) -> Result<Bins, Refused>
         requires { Fits domain }
         ensures { Makes ⟦<Bins as Transformation>⟧.mapping result (bins_from edges.items domain metric) }

@@ -112,7 +112,8 @@ fn number_of(table: &Table, text: &Text) -> u32
 
 /// The table of the texts, or none where two are equal.
 fn table_of(alloc: Global, texts: Texts) -> Result<Option<Table>, NoMemory>
-    ensures { IfOk result (λ made. MatchOption made (are_different texts ≡ false) (λ table. (are_different texts ≡ true) × (table ≡ texts))) }
+    ensures { IfOk result (λ made. MatchOption made (are_different texts ≡ false)
+        (λ table. (are_different texts ≡ true) × (table ≡ texts))) }
 {
     let mut table = Table::new(alloc);
     for text in texts.into_vec() {

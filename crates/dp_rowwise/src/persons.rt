@@ -43,7 +43,8 @@ pub fn kept_places<R: Records>(alloc: Global, records: &R, most: u64) -> Result<
 /// The places by persons and then by records.
 fn ordered_places<R: Records>(alloc: Global, records: &R) -> Result<Vec<u32>, NoMemory>
     ensures all { IfOk result (λ ordered. IsPermutation (places (R.rows records.now)) ordered.items) }
-    ensures sorted { IfOk result (λ ordered. IsSortedBy (λ i j. is_lt (place_cmp (R.column records.now) (R.rows records.now) i j)) ordered.items) }
+    ensures sorted { IfOk result (λ ordered.
+        IsSortedBy (λ i j. is_lt (place_cmp (R.column records.now) (R.rows records.now) i j)) ordered.items) }
 {
     let mut ordered = all_places(alloc, records.count())?;
     ordered.sort_unstable_by(|i, j| place_order(records, *i, *j));
@@ -81,8 +82,10 @@ fn first_of_each<R: Records>(
 ) -> Result<Vec<u32>, NoMemory>
     requires most { 1 ≤ most }
     requires all { IsPermutation (places (R.rows records.now)) ordered.now }
-    requires sorted { IsSortedBy (λ i j. is_lt (place_cmp (R.column records.now) (R.rows records.now) i j)) ordered.now }
-    ensures { IfOk result (λ kept. kept.items ≡ filter (λ i. nat_lt (rank (R.column records.now) (R.rows records.now) i) most) ordered.now) }
+    requires sorted { IsSortedBy
+        (λ i j. is_lt (place_cmp (R.column records.now) (R.rows records.now) i j)) ordered.now }
+    ensures { IfOk result (λ kept.
+        kept.items ≡ filter (λ i. nat_lt (rank (R.column records.now) (R.rows records.now) i) most) ordered.now) }
 {
     let mut kept = Vec::new(alloc);
     for index in 0..ordered.len() {
@@ -98,8 +101,10 @@ fn is_early<R: Records>(records: &R, ordered: &[u32], index: usize, most: usize)
     requires most { 1 ≤ most }
     requires within { index < length ordered.now }
     requires all { IsPermutation (places (R.rows records.now)) ordered.now }
-    requires sorted { IsSortedBy (λ i j. is_lt (place_cmp (R.column records.now) (R.rows records.now) i j)) ordered.now }
-    ensures { result ≡ nat_lt (rank (R.column records.now) (R.rows records.now) (slice_index_or ordered.now index 0)) most }
+    requires sorted { IsSortedBy
+        (λ i j. is_lt (place_cmp (R.column records.now) (R.rows records.now) i j)) ordered.now }
+    ensures { result ≡ nat_lt
+        (rank (R.column records.now) (R.rows records.now) (slice_index_or ordered.now index 0)) most }
 {
     index < most || !records.same_person(ordered[index - most], ordered[index])
 }

@@ -12,8 +12,8 @@ use dp_law::{Refused, Transformation};
 use dp_num::Past;
 use std::alloc::Global;
 
-/// Gives the cell in a column of each record. It takes `Rows` and gives `Texts`, both by `Symmetric`. The work is linear
-/// in the records and in the bytes of their cells in the column.
+/// Gives the cell in a column of each record. It takes `Rows` and gives `Texts`, both by `Symmetric`. The work is
+/// linear in the records and in the bytes of their cells in the column.
 #[derive(Debug, Drop)]
 pub struct Select {
     column: u32,
