@@ -14,7 +14,7 @@ use std::marker::Model;
 pub type Mids = Items<u64>;
 
 /// The greatest number of mids.
-const MOST_MIDS: u64 = 1024;
+const MOST_MIDS: usize = 1024;
 
 /// How a budget's units are limited.
 #[derive(Debug, Drop)]
@@ -53,7 +53,7 @@ impl Budget {
         ensures exactly { is_ok result ≡ are_mids mids }
         ensures new { IfOk result (λ budget. budget ≡ fresh (rule.Compositor mids)) }
     {
-        if mids.is_empty() || mids.len() > MOST_MIDS || total(mids.as_slice()).is_err() {
+        if !are_mids(mids.as_slice()) {
             return Err(Bound);
         }
         Ok(Budget::new(Rule::Compositor(mids)))
@@ -134,6 +134,13 @@ impl Budget {
             place: 0,
         }
     }
+}
+
+/// Whether there are 1 to 1,024 mids with a sum of at most 2^32.
+pub fn are_mids(mids: &[u64]) -> bool
+    ensures { result ≡ are_mids mids.now }
+{
+    1 <= mids.len() && mids.len() <= MOST_MIDS && total(mids).is_ok()
 }
 
 /// The sum of the mids. `Past` comes exactly where it is greater than 2^32.

@@ -5,7 +5,7 @@
 mod budget;
 mod over;
 
-pub use budget::{Budget, Mids, Rule};
+pub use budget::{Budget, Mids, Rule, are_mids};
 pub use over::Over;
 
 #[cfg(test)]

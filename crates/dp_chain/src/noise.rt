@@ -1,5 +1,9 @@
+ghost use Rattle.std.specs.Prelude.{◌≡◌, IfOk};
+
 use crate::stage::Stages;
-use dp_domain::Items;
+use dp_count::NoMemory;
+use dp_domain::{Duplicate, Items};
+use std::alloc::Global;
 
 /// The parameters of a measurement. `u` is a number of units.
 #[derive(Clone, Copy, Debug)]
@@ -40,3 +44,27 @@ pub struct Part {
 
 /// The parts of a release in order.
 pub type ReleaseSpec = Items<Part>;
+
+impl Duplicate for Part {
+    fn duplicate(&self, alloc: Global) -> Result<Part, NoMemory> {
+        copy_of(alloc, self)
+    }
+
+    fn duplicate_all(alloc: Global, items: &[Part]) -> Result<Vec<Part>, NoMemory> {
+        let mut copies = Vec::with_capacity(alloc, items.len())?;
+        for item in items {
+            copies.push(copy_of(alloc, item)?)?;
+        }
+        Ok(copies)
+    }
+}
+
+/// An equal part in memory of its own.
+fn copy_of(alloc: Global, part: &Part) -> Result<Part, NoMemory>
+    ensures { IfOk result (λ copy. copy ≡ part.now) }
+{
+    Ok(Part {
+        stages: part.stages.duplicate(alloc)?,
+        noise: part.noise,
+    })
+}

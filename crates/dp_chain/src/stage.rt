@@ -1,4 +1,8 @@
-use dp_domain::{Ints, Items, Text, Texts};
+ghost use Rattle.std.specs.Prelude.{◌≡◌, IfOk};
+
+use dp_count::NoMemory;
+use dp_domain::{Duplicate, Ints, Items, Text, Texts};
+use std::alloc::Global;
 
 /// The parameters of a transformation. Columns are numbers from 0.
 #[derive(Debug, Drop)]
@@ -73,3 +77,52 @@ pub enum Stage {
 
 /// Stages in order.
 pub type Stages = Items<Stage>;
+
+impl Duplicate for Stage {
+    fn duplicate(&self, alloc: Global) -> Result<Stage, NoMemory> {
+        copy_of(alloc, self)
+    }
+
+    fn duplicate_all(alloc: Global, items: &[Stage]) -> Result<Vec<Stage>, NoMemory> {
+        let mut copies = Vec::with_capacity(alloc, items.len())?;
+        for item in items {
+            copies.push(copy_of(alloc, item)?)?;
+        }
+        Ok(copies)
+    }
+}
+
+/// An equal stage in memory of its own.
+fn copy_of(alloc: Global, stage: &Stage) -> Result<Stage, NoMemory>
+    ensures { IfOk result (λ copy. copy ≡ stage.now) }
+{
+    Ok(match stage {
+        Stage::Filter { column, text } => Stage::Filter {
+            column: *column,
+            text: text.duplicate(alloc)?,
+        },
+        Stage::Select { column } => Stage::Select { column: *column },
+        Stage::Cast => Stage::Cast,
+        Stage::Categories { texts } => Stage::Categories {
+            texts: texts.duplicate(alloc)?,
+        },
+        Stage::Impute { value } => Stage::Impute { value: *value },
+        Stage::DropNone => Stage::DropNone,
+        Stage::Clamp { lo, hi } => Stage::Clamp { lo: *lo, hi: *hi },
+        Stage::Bins { edges } => Stage::Bins {
+            edges: edges.duplicate(alloc)?,
+        },
+        Stage::Resize { size, fill } => Stage::Resize {
+            size: *size,
+            fill: *fill,
+        },
+        Stage::Count => Stage::Count,
+        Stage::Sum => Stage::Sum,
+        Stage::Histogram => Stage::Histogram,
+        Stage::Quantise { step } => Stage::Quantise { step: *step },
+        Stage::AtLeast { edges } => Stage::AtLeast {
+            edges: edges.duplicate(alloc)?,
+        },
+        Stage::Truncate { most } => Stage::Truncate { most: *most },
+    })
+}
