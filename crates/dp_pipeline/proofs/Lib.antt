@@ -1,0 +1,4 @@
+pub mod Fronts
+pub mod InRange
+pub mod LastParts
+pub mod Views

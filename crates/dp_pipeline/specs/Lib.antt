@@ -1,0 +1,9 @@
+pub mod Accepted
+pub mod Answers
+pub mod Contents
+pub mod Json
+pub mod Places
+pub mod Printing
+pub mod Queries
+pub mod RootForms
+pub mod StageForms
