@@ -1,7 +1,9 @@
 pub mod Calls
 pub mod FileShelf
+pub mod Lines
 pub mod MemShelf
 pub mod MemSink
+pub mod ReadBuffer
 pub mod Shelf
 pub mod Sink
 pub mod StdSink

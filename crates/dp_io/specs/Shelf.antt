@@ -1,5 +1,6 @@
 -- What a shelf of files tells, and what an open and a read do to it.
 use Rattle.std.specs.Prelude.{◌≡◌, ℕ, ◌≤◌, List, [], ◌++◌, length, take, drop, Option, Some, None, IsSome, option_map}
+use Rattle.std.specs.Option.{ForSome}
 
 -- the bytes of each file by its name
 abbrev pub Files : Type 0
@@ -24,6 +25,10 @@ TakesNext (Some left) new n buffer =
 -- what was left with these bytes before what is left now, where it is told
 abbrev pub preceded : List ℕ → Option (List ℕ) → Option (List ℕ)
 preceded bytes left = option_map (λ rest. bytes ++ rest) left
+
+-- nothing is left, where it is told
+abbrev pub IsEmptied : Option (List ℕ) → Type 0
+IsEmptied left = ForSome left (λ rest. rest ≡ [])
 
 -- what is left now is a rest of what was left
 pub record KeepsRest (old new : Option (List ℕ)) : Type 0 where

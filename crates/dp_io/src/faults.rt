@@ -21,6 +21,15 @@ pub enum WholeFault {
     NoMemory,
 }
 
+/// Why a line was not read.
+#[derive(Clone, Copy, Debug, PartialEq, Eq)]
+pub enum LineFault {
+    /// A read failed.
+    Failed,
+    /// The line has more than 65,536 bytes.
+    TooLong,
+}
+
 impl From<Failed> for OpenFault {
     ghost use Rattle.std.specs.Prelude.{◌≡◌};
     ghost use Rattle.dp_io.specs.declared.faults.OpenFault.TheVariants as open_fault;
@@ -106,5 +115,16 @@ impl<T: Drop> From<AllocFailed<T>> for WholeFault {
 
     fn from(_: AllocFailed<T>) -> Self {
         WholeFault::NoMemory
+    }
+}
+
+impl From<Failed> for LineFault {
+    ghost use Rattle.std.specs.Prelude.{◌≡◌};
+    ghost use Rattle.dp_io.specs.declared.faults.LineFault.TheVariants as line_fault;
+
+    ghost from_gives = { λ _ fault. fault ≡ line_fault.Failed };
+
+    fn from(_: Failed) -> Self {
+        LineFault::Failed
     }
 }

@@ -8,6 +8,8 @@ use std::io::{ErrorKind, Read, Write};
 use std::test::Fail;
 use std::{fs, io};
 
+mod lines;
+
 /// A shelf in memory with one file, "data", of the three bytes "xyz".
 fn shelf_with_data(alloc: Global, piece: usize, fails: Vec<u64>) -> Result<MemShelf, Fail>
     requires { 0 < piece }
