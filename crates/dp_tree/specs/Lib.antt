@@ -1,0 +1,4 @@
+pub mod History
+pub mod Table
+pub mod Standing
+pub mod Lists
