@@ -1,6 +1,5 @@
 -- What the test of a narrow range tells.
-use Rattle.std.proofs.Common.{◌≡◌, Bool, true, ◌&&◌, ℤ, pos, neg_ℤ, ◌-ℤ◌, ◌≤ℤ◌, arith}
-use Rattle.std.specs.Prelude.{int_le}
+use Rattle.std.proofs.Common.{◌≡◌, true, ℤ, pos, ◌-ℤ◌, ◌≤ℤ◌, arith}
 use Rattle.std.proofs.lemmas.Int.{ints}
 use Rattle.dp_domain.specs.Domains.{number_limit, IsRange}
 use Rattle.dp_domain.specs.Ranges.{is_narrow_range, IsNarrowRange}
