@@ -1,16 +1,21 @@
 -- The steps of `count`, one after another.
-use Rattle.std.proofs.Common.{◌≡◌, ◌∙◌, ◌^◌, ℕ, List, length, Option, Some, None, Ok, Err, refl, sym, ap}
+use Rattle.std.proofs.Common.{◌≡◌, ◌∙◌, ◌≤◌, ◌^◌, ℕ, List, length, Option, Some, None, Ok, Err, refl, sym, ap}
 use Rattle.std.specs.Prelude.{ℤ, option_map}
 use Rattle.std.specs.Option.{ForSome}
+use Rattle.std.proofs.lemmas.Bool.{le-leb}
 use Rattle.dp_io.specs.Shelf.{Files}
 use Rattle.dp_runner.specs.declared.stop.Stop.{Stop}
 use Rattle.dp_runner.specs.declared.stop.Stop.TheVariants as stop
 use Rattle.dp_runner.specs.RawRecords.{raw, raw_up_to}
 use Rattle.dp_count.specs.Results.{◌>>=◌}
 use Rattle.dp_runner.specs.Outcome.{or_stop}
-use Rattle.dp_runner.specs.Texts.{file_text, drawn}
+use Rattle.dp_runner.specs.Texts.{text_within, file_text, drawn}
 use Rattle.dp_runner.specs.Count.{CountForm, counted, cell_draws, cell_answer, count_answer}
 use Rattle.dp_runner.proofs.Steps.{bind-ok, bind-err}
+
+-- a file that is there and short enough is read
+pub file-read : (files : Files) (name text : List ℕ) (most : ℕ) → files name ≡ Some text → length text ≤ most → file_text files name most ≡ Ok text
+file-read files name text most is short = ap (text_within most) is ∙ rw (le-leb (length text) most short) refl
 
 -- the records of a text that was read
 pub counted-ok : (told : Option Files) (name text : List ℕ) (n : ℕ) → ForSome told (λ files. file_text files name (2 ^ 30) ≡ Ok text)

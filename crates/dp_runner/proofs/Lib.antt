@@ -1,5 +1,9 @@
+pub mod CheckRuns
 pub mod CountRuns
 pub mod CountSteps
+pub mod FormRuns
+pub mod Lines
+pub mod PipelineSteps
 pub mod RecordCounts
 pub mod RunEnds
 pub mod Steps

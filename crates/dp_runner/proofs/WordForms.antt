@@ -1,6 +1,8 @@
--- The form of four words after `count`, and of any other number of words; and the form of a first word and others.
+-- The form of four words after `count`, of one word after `check`, and of any other number of words; and the form of a
+-- first word and others.
 use Rattle.std.proofs.Common.{◌≡◌, ◌≢◌, ◌≤◌, ℕ, List, [], ◌∷◌, ◌-◌, length, take, drop, map, get_or, None, refl, arith, length-drop}
 use Rattle.std.proofs.lemmas.List.{take_all}
+use Rattle.dp_runner.specs.Check.{check_form, check_form_of}
 use Rattle.dp_runner.specs.Count.{count_form, count_form_of}
 use Rattle.dp_runner.specs.Forms.{form_of, form_after}
 
@@ -19,6 +21,18 @@ other-words bytes (v ∷ []) n = refl
 other-words bytes (v ∷ w ∷ []) n = refl
 other-words bytes (v ∷ w ∷ x ∷ []) n = refl
 other-words bytes (v ∷ w ∷ x ∷ y ∷ more ∷ rest) n = refl
+
+pub one-word : {W : Type 0} (bytes : W → List ℕ) (words : List W) (a : W) → length words ≡ 1 → a ≡ get_or words 0 a
+    → check_form (map bytes words) ≡ check_form_of (bytes a)
+unfolding check_form
+one-word bytes (w ∷ []) a n ia = rw ia refl
+one-word bytes _ a n ia = absurd (omega arith)
+
+pub not_one-word : {W : Type 0} (bytes : W → List ℕ) (words : List W) → length words ≢ 1 → check_form (map bytes words) ≡ None
+unfolding check_form
+not_one-word bytes (w ∷ []) n = absurd (n refl)
+not_one-word bytes [] n = refl
+not_one-word bytes (w ∷ more ∷ rest) n = refl
 
 pub first-word : {W : Type 0} (bytes : W → List ℕ) (words : List W) (a : W) → 1 ≤ length words → a ≡ get_or words 0 a
     → form_of (map bytes words) ≡ form_after (bytes a) (map bytes (drop 1 words))

@@ -8,6 +8,7 @@ use Rattle.dp_runner.specs.declared.stop.Stop.{Stop}
 use Rattle.dp_runner.specs.declared.stop.Stop.TheVariants as stop
 use Rattle.dp_runner.specs.Outcome.{Source, written_last}
 use Rattle.dp_runner.specs.Causes.{HasReason, HasDone, Runs}
+use Rattle.dp_runner.specs.Laws.{IsDone}
 use Rattle.dp_runner.specs.WrittenLines.{are_lines, AddsLines}
 
 pub nothing-gained : (held : Option (List ℕ)) → held ≡ appended held []
@@ -54,3 +55,7 @@ pub runs-front : (source : Source) (told : Option Files) (right : Files → Resu
     → ForSome told (λ files. right files ≡ Ok bytes) → AddsFront old new bytes
     → Runs (Err stop.WriteFault) told (λ files. written_last source (right files)) before now old new source.state
 runs-front source told right before now old new bytes h front = λ files e. front-some source (right files) bytes old new (h files e) front
+
+-- what nothing stops
+pub done-written : (source : Source) (right : Result (List ℕ) Stop) (bytes : List ℕ) → right ≡ Ok bytes → IsDone (written_last source right) bytes source.state
+done-written source right bytes e = rw e (record { bytes_are = refl; stop_is = refl; last_is = refl })

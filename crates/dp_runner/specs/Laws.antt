@@ -1,10 +1,14 @@
 -- Where a run does its work: a law a command. Its words are of its form, its files are there and within their limits,
--- and its draws are enough.
-use Rattle.std.specs.Prelude.{◌≡◌, ◌≤◌, ◌^◌, ℕ, List, length, Some, None}
+-- its pipeline is accepted, and its draws are enough.
+use Rattle.std.specs.Prelude.{◌≡◌, ◌≤◌, ◌^◌, ℕ, List, length, Some, None, Ok}
 use Rattle.dp_io.specs.Shelf.{Files}
 use Rattle.dp_draws.specs.Numbers.{drawn_numbers}
+use Rattle.dp_pipeline.specs.declared.content.Content.{Content}
+use Rattle.dp_pipeline.specs.Accepted.{accepted}
+use Rattle.dp_pipeline.specs.Printing.{check_text}
 use Rattle.dp_runner.specs.declared.form.Form.TheVariants as form
 use Rattle.dp_runner.specs.Outcome.{Source, Outcome}
+use Rattle.dp_runner.specs.Check.{CheckForm}
 use Rattle.dp_runner.specs.Count.{CountForm, cell_draws, cell_answer, answer_line}
 use Rattle.dp_runner.specs.Forms.{form_of, outcome}
 use Rattle.dp_runner.specs.RawRecords.{raw}
@@ -23,3 +27,10 @@ CountLaw = (words : List (List ℕ)) (files : Files) (source : Source) (count : 
     → files count.draws_name ≡ Some numbers → length numbers ≤ 2 ^ 26
     → cell_draws count (drawn_numbers numbers) ≡ Some draws
     → IsDone (outcome words files source) (answer_line (cell_answer count (length (raw text)) draws)) source.state
+
+-- `check` writes the stages of its pipeline, ends with 0 and leaves the draw source that is handed in as it was
+abbrev pub CheckLaw : Type 0
+CheckLaw = (words : List (List ℕ)) (files : Files) (source : Source) (check : CheckForm) (text : List ℕ) (content : Content)
+    → form_of words ≡ Some (form.Check check)
+    → files check.pipeline_name ≡ Some text → accepted text ≡ Ok content
+    → IsDone (outcome words files source) (check_text content) source.state

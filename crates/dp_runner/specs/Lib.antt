@@ -1,8 +1,10 @@
 pub mod Causes
+pub mod Check
 pub mod Count
 pub mod Forms
 pub mod Laws
 pub mod Outcome
+pub mod Pipelines
 pub mod RawRecords
 pub mod RunClauses
 pub mod Stops

@@ -1,10 +1,11 @@
 -- What the clauses of a whole run say.
-use Rattle.std.specs.Prelude.{◌≡◌, ◌≢◌, ◌⊎◌, ℕ, List, Option, IsTrue}
+use Rattle.std.specs.Prelude.{◌≡◌, ◌≢◌, ◌⊎◌, ℕ, List, Option, Some, IsTrue}
 use Rattle.std.specs.Option.{ForSome}
 use Rattle.dp_count.specs.Faults.{Rose}
 use Rattle.dp_io.specs.Shelf.{Files}
 use Rattle.dp_io.specs.Sink.{appended, AddsFront}
 use Rattle.dp_runner.specs.declared.stop.Stop.{Stop}
+use Rattle.dp_runner.specs.declared.stop.Stop.TheVariants as stop
 use Rattle.dp_runner.specs.Outcome.{Outcome}
 use Rattle.dp_runner.specs.Stops.{status_at, line_at}
 use Rattle.dp_runner.specs.WrittenLines.{are_lines}
@@ -16,6 +17,11 @@ pub record IsOutcome (outcome : Outcome) (old new : Option (List ℕ)) (status :
   pub bytes : new ≡ appended old outcome.bytes
   pub status_is : status ≡ status_at outcome.stop
   pub last_is : last ≡ outcome.last
+
+-- the run stopped because a pipeline is refused
+abbrev pub IsRefused : Option Stop → Type 0
+IsRefused (Some (stop.Pipeline c)) = Unit {0}
+IsRefused _ = ⊥
 
 -- the output gained a front of the bytes, whole lines unless the run ended with the status of a write fault
 pub record GainsLines (bytes : List ℕ) (old new : Option (List ℕ)) (status : ℕ) : Type 0 where

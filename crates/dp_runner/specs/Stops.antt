@@ -1,9 +1,11 @@
 -- Why a run may end before its end: the table of its statuses, a row a stop.
-use Rattle.std.specs.Prelude.{ℕ, ◌==◌, ◌||◌, Bool, List, [], Option, Some, None, codes}
+use Rattle.std.specs.Prelude.{ℕ, ◌+◌, ◌%◌, ◌==◌, ◌||◌, ◌++◌, Bool, List, [], ◌∷◌, Option, Some, None, codes}
 use Rattle.dp_io.specs.declared.faults.OpenFault.{OpenFault}
 use Rattle.dp_io.specs.declared.faults.OpenFault.TheVariants as open_fault
 use Rattle.dp_io.specs.declared.faults.WholeFault.{WholeFault}
 use Rattle.dp_io.specs.declared.faults.WholeFault.TheVariants as whole_fault
+use Rattle.dp_pipeline.specs.declared.faults.PipelineFault.{PipelineFault}
+use Rattle.dp_pipeline.specs.declared.faults.PipelineFault.TheVariants as pipeline_fault
 use Rattle.dp_runner.specs.declared.stop.Stop.{Stop}
 use Rattle.dp_runner.specs.declared.stop.Stop.TheVariants as stop
 
@@ -12,9 +14,14 @@ pub record StopRow : Type 0 where
   pub status : ℕ
   pub line : List ℕ
 
+-- the line of a refused pipeline: its number, which is from 1 to 9 and so has one digit
+abbrev pub refused_line : ℕ → List ℕ
+refused_line c = codes "dp: pipeline refused " ++ (48 + c % 10) ∷ codes "\n"
+
 -- the table
 abbrev pub row_of : Stop → StopRow
 row_of stop.Usage = record { status = 2; line = codes "dp: usage\n" }
+row_of (stop.Pipeline c) = record { status = 3; line = refused_line c }
 row_of stop.ReadFault = record { status = 4; line = codes "dp: read fault\n" }
 row_of stop.WriteFault = record { status = 5; line = codes "dp: write fault\n" }
 row_of stop.DrawFault = record { status = 6; line = codes "dp: draw fault\n" }
@@ -45,3 +52,8 @@ abbrev pub stop_of_whole : WholeFault → Stop
 stop_of_whole whole_fault.Failed = stop.ReadFault
 stop_of_whole whole_fault.TooLong = stop.TooLong
 stop_of_whole whole_fault.NoMemory = stop.NoMemory
+
+-- what a fault of reading a pipeline stops a run with
+abbrev pub stop_of_pipeline : PipelineFault → Stop
+stop_of_pipeline (pipeline_fault.Refused c) = stop.Pipeline c
+stop_of_pipeline pipeline_fault.NoMemory = stop.NoMemory

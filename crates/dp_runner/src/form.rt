@@ -1,6 +1,7 @@
 ghost use Rattle.std.specs.Prelude.{◌≡◌, map, string_bytes};
 ghost use Rattle.dp_runner.specs.Forms.{form_of, form_after};
 
+use crate::check::{CheckForm, check_form};
 use crate::count::{CountForm, count_form};
 
 /// The words of a command line that has a form: a variant a command.
@@ -8,6 +9,8 @@ use crate::count::{CountForm, count_form};
 pub(crate) enum Form<'a> {
     /// `count DATA DRAWS LO HI`
     Count(CountForm<'a>),
+    /// `check P`
+    Check(CheckForm<'a>),
 }
 
 /// The form of the words, if they are of one.
@@ -26,6 +29,7 @@ fn form_after<'a>(command: &str, words: &'a [String]) -> Option<Form<'a>>
 {
     match command {
         "count" => Some(Form::Count(count_form(words)?)),
+        "check" => Some(Form::Check(check_form(words)?)),
         _ => None,
     }
 }

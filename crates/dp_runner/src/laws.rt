@@ -1,8 +1,14 @@
 //! Where a run does its work. Each law is the contract of a function that does nothing.
-ghost use Rattle.dp_runner.specs.Laws.{CountLaw};
+ghost use Rattle.dp_runner.specs.Laws.{CountLaw, CheckLaw};
 
 /// Where the words are of the form of `count`, its files are there and within their limits, and its draws are enough,
 /// the run writes the line of the answer and ends with 0.
 pub fn count_law()
     ensures { CountLaw }
+{}
+
+/// Where the words are of the form of `check`, its file is there and its text is an accepted pipeline, the run writes
+/// the stages of the pipeline and ends with 0.
+pub fn check_law()
+    ensures { CheckLaw }
 {}

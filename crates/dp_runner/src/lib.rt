@@ -1,9 +1,11 @@
 //! The runner: all that the program `dp` does, as one call over a shelf of files, a draw source and two outputs.
 #![tactic(auto)]
 
+mod check;
 mod count;
 mod form;
 pub mod laws;
+mod pipelines;
 mod run;
 mod stop;
 mod tally;

@@ -4,9 +4,10 @@ ghost use Rattle.dp_count.specs.Faults.{Rose, Still};
 ghost use Rattle.dp_runner.specs.Causes.{Runs, Kept, IsTold};
 ghost use Rattle.dp_runner.specs.Outcome.{source_at};
 ghost use Rattle.dp_runner.specs.Forms.{form_of, command, outcome};
-ghost use Rattle.dp_runner.specs.RunClauses.{IsOutcome, Ending, GainsLines, GainsMessage};
+ghost use Rattle.dp_runner.specs.RunClauses.{IsOutcome, IsRefused, Ending, GainsLines, GainsMessage};
 ghost use Rattle.dp_runner.specs.Stops.{row_of, is_silent};
 
+use crate::check::run_check;
 use crate::count::run_count;
 use crate::form::{Form, form_of};
 use crate::stop::Stop;
@@ -66,6 +67,8 @@ pub fn run_words<S: Shelf, D: Draws, K: Sink, E: Sink>(
         → K.held out.new ≡ K.held out.old }
 
     ensures usage { (result ≡ 2) ↔ (form_of (map string_bytes words.now) ≡ None) }
+    ensures refused { result ≡ 3 → ForSome (S.files shelf.old)
+        (λ files. IsRefused (outcome (map string_bytes words.now) files (source_at D.step (D.state draws.old))).stop) }
     ensures read_fault { result ≡ 4 → (Rose (S.faults shelf.old) (S.faults shelf.new) ⊎ IsTold (S.files shelf.old)
         (λ files. (outcome (map string_bytes words.now) files (source_at D.step (D.state draws.old))).stop
         ≡ Some Stop.ReadFault)) }
@@ -146,5 +149,6 @@ fn run<S: Shelf, D: Draws, K: Sink>(
     match form_of(words) {
         None => Err(Stop::Usage),
         Some(Form::Count(form)) => run_count(alloc, &form, shelf, out),
+        Some(Form::Check(form)) => run_check(alloc, &form, shelf, out),
     }
 }

@@ -1,15 +1,18 @@
 ghost use Rattle.std.specs.Prelude.{◌≡◌};
-ghost use Rattle.dp_runner.specs.Stops.{row_of};
+ghost use Rattle.dp_runner.specs.Stops.{row_of, refused_line};
 ghost use Rattle.dp_runner.specs.declared.stop.Stop.TheVariants as stop;
 
 use dp_count::{Failed, NoMemory};
 use dp_io::{OpenFault, WholeFault};
+use dp_pipeline::PipelineFault;
 
 /// Why a run ended before its end.
 #[derive(Clone, Copy, Debug, PartialEq, Eq)]
 pub(crate) enum Stop {
     /// The words are of no form.
     Usage,
+    /// The text of a pipeline is refused, with a number from 1 to 9.
+    Pipeline(u8),
     /// A file could not be read.
     ReadFault,
     /// The output could not be written.
@@ -39,6 +42,7 @@ impl Stop {
     {
         let (status, line) = match self {
             Stop::Usage => (2, "dp: usage\n"),
+            Stop::Pipeline(number) => (3, refused_line(number)),
             Stop::ReadFault => (4, "dp: read fault\n"),
             Stop::WriteFault => (5, "dp: write fault\n"),
             Stop::DrawFault => (6, "dp: draw fault\n"),
@@ -46,6 +50,24 @@ impl Stop {
             Stop::NoMemory => (9, "dp: no memory\n"),
         };
         StopRow { status, line }
+    }
+}
+
+/// The line of a refused pipeline. It has one digit, since the number is from 1 to 9.
+fn refused_line(number: u8) -> &'static str
+    ensures { result.now ≡ refused_line number }
+{
+    match number % 10 {
+        1 => "dp: pipeline refused 1\n",
+        2 => "dp: pipeline refused 2\n",
+        3 => "dp: pipeline refused 3\n",
+        4 => "dp: pipeline refused 4\n",
+        5 => "dp: pipeline refused 5\n",
+        6 => "dp: pipeline refused 6\n",
+        7 => "dp: pipeline refused 7\n",
+        8 => "dp: pipeline refused 8\n",
+        9 => "dp: pipeline refused 9\n",
+        _ => "dp: pipeline refused 0\n",
     }
 }
 
@@ -82,6 +104,20 @@ impl From<WholeFault> for Stop {
             WholeFault::Failed => Stop::ReadFault,
             WholeFault::TooLong => Stop::TooLong,
             WholeFault::NoMemory => Stop::NoMemory,
+        }
+    }
+}
+
+impl From<PipelineFault> for Stop {
+    ghost use Rattle.std.specs.Prelude.{◌≡◌};
+    ghost use Rattle.dp_runner.specs.Stops.{stop_of_pipeline};
+
+    ghost from_gives = { λ fault e. e ≡ stop_of_pipeline fault };
+
+    fn from(fault: PipelineFault) -> Self {
+        match fault {
+            PipelineFault::Refused(number) => Stop::Pipeline(number),
+            PipelineFault::NoMemory => Stop::NoMemory,
         }
     }
 }

@@ -1,3 +1,5 @@
+mod check;
+
 use crate::laws::count_law;
 use crate::tally::count_records;
 use crate::{end_without_memory, run_words};
@@ -32,6 +34,9 @@ const NO_FAILURE: Calls = Calls {
     whole: false,
 };
 
+/// How many bytes an output in memory has room for.
+const ROOM: usize = 1024;
+
 /// A run over a shelf in memory with the files `data` and `draws`.
 fn run_with(
     rt: &impl AllocGlobal,
@@ -55,8 +60,8 @@ fn run_with(
         String::from_str(alloc, "draws")?,
         Vec::from_slice(alloc, draws)?,
     )?;
-    let mut out = MemSink::new(alloc, written, vec![in alloc; calls.out]?, 64)?;
-    let mut err = MemSink::new(alloc, told, vec![in alloc; calls.err]?, 64)?;
+    let mut out = MemSink::new(alloc, written, vec![in alloc; calls.out]?, ROOM)?;
+    let mut err = MemSink::new(alloc, told, vec![in alloc; calls.err]?, ROOM)?;
     let mut given = Vec::new(alloc);
     for word in words {
         given.push(String::from_str(alloc, word)?)?;
