@@ -8,7 +8,7 @@ use Rattle.dp_budget.specs.Rules.{charged, fresh, turn}
 use Rattle.dp_budget.specs.declared.budget.Rule.{Rule}
 use Rattle.dp_tree.specs.History.{Seat, Event, Ask, Open, node_at, nodes, newest, number_of, node_of, cost_of, total, spent, queries, account, last_at, Accepted}
 use Rattle.dp_tree.specs.Table.{Row, TreeValue, numbers, place_of, row_of, depth_of_row, over_in, charged_row, charged_rows, new_row, asked, opened, root_rows, IsNext}
-use Rattle.dp_tree.specs.Standing.{Stands, IsRow, node_of_row, seat_of}
+use Rattle.dp_tree.specs.Standing.{Stands, StandsStill, IsRow, node_of_row, seat_of}
 use Rattle.dp_tree.proofs.Rows.{eqb-same, eqb-other, row_append, number_append_left, place-found}
 use Rattle.dp_tree.proofs.Nodes.{made, none-or-some, node-le, node-kept, last-le}
 use Rattle.dp_tree.proofs.Walks.{row-node, over-is}
@@ -217,3 +217,11 @@ next-opened t i number seat next = λ place row h.
       | inl at ↦ next-rows i number (total seat.rule) t next place row at
       | inr at ↦ subst (λ (r : Row). (r.number < number + 1) × (r.last < number + 1)) (sym at.1) (omega arith, omega arith)
     ]
+
+-- a tree with the same table stands where the other does
+pub stands-still : (old new : TreeValue) → new.rows ≡ old.rows → StandsStill old new
+stands-still old new e root past s = record {
+  accepted = s.accepted;
+  nodes = ap numbers e ∙ s.nodes;
+  rows = λ place row h. s.rows place row (ap (λ rows. slice_get rows place) (sym e) ∙ h);
+}

@@ -1,5 +1,6 @@
 -- The accepted queries of a tree of nodes, newest first, and what they make of it.
-use Rattle.std.specs.Prelude.{◌≡◌, ℕ, ◌+◌, ◌*◌, ◌<◌, ◌==◌, ◌++◌, Bool, is_some, true, List, [], ◌∷◌, Option, Some, None, if◌then◌else◌, nat_lt, max, option_map}
+use Rattle.std.specs.Prelude.{◌≡◌, ℕ, ◌+◌, ◌*◌, ◌<◌, ◌==◌, ◌++◌, Bool, is_some, true, List, [], ◌∷◌}
+use Rattle.std.specs.Prelude.{Option, Some, None, if◌then◌else◌, nat_lt, max, option_map}
 use Rattle.std.specs.List.{sum_by, count_by}
 use Rattle.dp_domain.specs.declared.domains.Domain.{Domain}
 use Rattle.dp_domain.specs.declared.metrics.Metric.{Metric}

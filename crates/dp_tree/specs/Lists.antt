@@ -1,5 +1,7 @@
 -- The lists in which a tree is kept: the numbers of its nodes, their links, and their other parts.
-use Rattle.std.specs.Prelude.{◌≡◌, false, Result, OnOk, ℕ, ◌+◌, ◌≤◌, ◌<◌, ◌^◌, ◌==◌, List, [], ◌∷◌, map, length, Option, Some, None, if◌then◌else◌, nat_lt, slice_get, slice_index}
+use Rattle.std.specs.Prelude.{◌≡◌, false, Result, OnOk, ℕ, ◌+◌, ◌≤◌, ◌<◌, ◌^◌, ◌==◌, List, [], ◌∷◌}
+use Rattle.std.specs.Prelude.{map, length, Option, Some, None, if◌then◌else◌, nat_lt, slice_get}
+use Rattle.std.specs.Prelude.{slice_index}
 use Rattle.std.specs.Result.{result_err}
 use Rattle.dp_num.specs.declared.trail.Link.{Link}
 use Rattle.dp_num.specs.Reserved.{ReservedValue, with_item}

@@ -4,7 +4,8 @@ use Rattle.dp_budget.specs.declared.over.Over.{Over}
 use Rattle.dp_budget.specs.declared.budget.Rule.{Rule}
 use Rattle.dp_tree.specs.declared.faults.FindFault.{FindFault}
 use Rattle.dp_tree.specs.declared.faults.SeatFault.{SeatFault}
-use Rattle.dp_tree.specs.History.{Seat, Event, Node, number_of, newest, nodes, node_at, account, last_at, Accepted, find_fault, over_at, seat_fault}
+use Rattle.dp_tree.specs.History.{Seat, Event, Node, number_of, newest, nodes, node_at, account}
+use Rattle.dp_tree.specs.History.{last_at, Accepted, find_fault, over_at, seat_fault}
 use Rattle.dp_tree.specs.Table.{Row, TreeValue, numbers, EachRow}
 
 -- what the node of a row was given
@@ -36,16 +37,23 @@ StandsAfter old event new =
     (root : Seat) (past : List Event)
     → Stands root past old → newest past < number_of event → Stands root (event ∷ past) new
 
+-- a tree that stands at a history stands there still
+abbrev pub StandsStill : TreeValue → TreeValue → Type 0
+StandsStill old new = (root : Seat) (past : List Event) → Stands root past old → Stands root past new
+
 -- what finding a node answers is the verdict of each history at which the tree stands
 abbrev pub FindsBy : TreeValue → ℕ → Option FindFault → Type 0
 FindsBy t i fault =
-    (root : Seat) (past : List Event) → Stands root past t → fault ≡ find_fault t.siblings_open root past i
+    (root : Seat) (past : List Event)
+    → Stands root past t → fault ≡ find_fault t.siblings_open root past i
 
 -- what asking answers is the verdict of each history at which the tree stands
 abbrev pub AsksBy : TreeValue → ℕ → ℕ → Option Over → Type 0
-AsksBy t i cost fault = (root : Seat) (past : List Event) → Stands root past t → fault ≡ over_at root past i cost
+AsksBy t i cost fault =
+    (root : Seat) (past : List Event) → Stands root past t → fault ≡ over_at root past i cost
 
 -- what opening answers is the verdict of each history at which the tree stands
 abbrev pub OpensBy : TreeValue → ℕ → ℕ → ℕ → Rule → Option SeatFault → Type 0
 OpensBy t i distance mapped rule fault =
-    (root : Seat) (past : List Event) → Stands root past t → fault ≡ seat_fault root past i distance mapped rule
+    (root : Seat) (past : List Event)
+    → Stands root past t → fault ≡ seat_fault root past i distance mapped rule

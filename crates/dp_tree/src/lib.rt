@@ -12,3 +12,6 @@ mod walk;
 
 pub use faults::{FindFault, SeatFault};
 pub use tree::Tree;
+
+#[cfg(test)]
+mod tests;

@@ -52,7 +52,7 @@ impl Tree {
     ghost use Rattle.dp_tree.specs.History.{Ask, Open, given};
     ghost use Rattle.dp_tree.specs.Table.{Row, row_of, fault_in, over_in, seat_fault_in, asked, opened};
     ghost use Rattle.dp_tree.specs.Table.{root_rows, numbers, place_of, IsNext};
-    ghost use Rattle.dp_tree.specs.Standing.{Stands, StandsAfter, FindsBy, AsksBy, OpensBy};
+    ghost use Rattle.dp_tree.specs.Standing.{Stands, StandsAfter, StandsStill, FindsBy, AsksBy, OpensBy};
     ghost use Rattle.dp_tree.specs.Lists.{IsTrailOf, IsStateOf};
 
     /// A tree with the root alone, in which a query freezes the nodes below. The root is given its domain, its metric,
@@ -98,6 +98,7 @@ impl Tree {
         ensures kept { self.old.spare ≤ self.new.spare }
         ensures rows { self.new.rows ≡ self.old.rows }
         ensures siblings { self.new.siblings_open ≡ self.old.siblings_open }
+        ensures stands { StandsStill self.old self.new }
     {
         self.numbers.reserve()?;
         self.trail.reserve()?;
@@ -126,8 +127,8 @@ impl Tree {
         nearest_frozen(self.numbers.as_slice(), &self.trail, node, depth, at, steps)
     }
 
-    /// Asks a query of a cost, at most 2^32, of a node that `find` finds. The query's number is greater than those of all
-    /// accepted before. `Over` comes exactly by the node's budget, and then nothing changed. After `Ok` the cost is
+    /// Asks a query of a cost, at most 2^32, of a node that `find` finds. The query's number is greater than those of
+    /// all accepted before. `Over` comes exactly by the node's budget, and then nothing changed. After `Ok` the cost is
     /// charged to the node alone, and the node has no live child.
     pub fn ask(&mut self, node: u64, query: u32, cost: u64) -> Result<(), Over>
         requires found { fault_in self.old node ≡ None }
@@ -176,7 +177,7 @@ impl Tree {
         ensures verdict { OpensBy self.old node distance mapped budget.rule (result_err result) }
         ensures opened { OnOk result (self.new ≡ opened self.old node query (given domain metric distance budget)) }
         ensures kept { OnErr result (self.new ≡ self.old) }
-        ensures stands { OnOk result (StandsAfter self.old (Open query node (given domain metric distance budget) mapped) self.new) }
+        ensures stands { let seat = given domain metric distance budget in OnOk result (StandsAfter self.old (Open query node seat mapped) self.new) }
     {
         let at = self.place(node);
         let depth = self.states.at(u64::from(at)).depth;
