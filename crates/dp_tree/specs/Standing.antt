@@ -1,5 +1,5 @@
 -- When a tree stands at a history: its table is what the accepted queries make of it.
-use Rattle.std.specs.Prelude.{◌≡◌, ℕ, ◌<◌, List, ◌∷◌, length, Option, Some, slice_index}
+use Rattle.std.specs.Prelude.{◌≡◌, ℕ, ◌<◌, List, ◌∷◌, length, Option, Result, Some, OnOk, slice_index}
 use Rattle.dp_budget.specs.declared.over.Over.{Over}
 use Rattle.dp_budget.specs.declared.budget.Rule.{Rule}
 use Rattle.dp_tree.specs.declared.faults.FindFault.{FindFault}
@@ -36,6 +36,10 @@ abbrev pub StandsAfter : TreeValue → Event → TreeValue → Type 0
 StandsAfter old event new =
     (root : Seat) (past : List Event)
     → Stands root past old → newest past < number_of event → Stands root (event ∷ past) new
+
+-- the same where the query was accepted
+abbrev pub StandsIfOk : {E : Type 0} → Result (Unit {0}) E → TreeValue → Event → TreeValue → Type 0
+StandsIfOk result old event new = OnOk result (StandsAfter old event new)
 
 -- a tree that stands at a history stands there still
 abbrev pub StandsStill : TreeValue → TreeValue → Type 0

@@ -1,5 +1,5 @@
-ghost use Rattle.std.specs.Prelude.{◌≡◌, ◌≢◌, ℕ, ◌+◌, ◌≤◌, ◌<◌, ◌^◌, [], ◌∷◌, true, false, Some, None};
-ghost use Rattle.std.specs.Prelude.{IfSome, IfOk, IsSome, OnOk, OnErr, length, slice_get};
+ghost use Rattle.std.specs.Prelude.{◌≡◌, ◌+◌, ◌≤◌, ◌<◌, ◌^◌, [], true, false, None};
+ghost use Rattle.std.specs.Prelude.{IfSome, IfOk, IsSome, OnOk, OnErr, length};
 ghost use Rattle.std.specs.Result.{result_err};
 ghost use Rattle.dp_domain.specs.Domains.{Fits};
 ghost use Rattle.dp_budget.specs.Rules.{fresh, declared};
@@ -20,8 +20,8 @@ use std::sync::ledger::Ledger;
 /// The greatest depth of a node.
 const MOST_DEPTH: u32 = 16;
 
-/// Nodes below a root, each with a domain, a metric, a distance and a budget. Contracts see a table with a row for each
-/// node, for how many more nodes there is room, and whether a query leaves the nodes below open.
+/// Nodes below a root, each with a domain, a metric, a distance and a budget. Contracts see a table with a row for
+/// each node, for how many more nodes there is room, and whether a query leaves the nodes below open.
 #[derive(Debug, Drop)]
 pub struct Tree {
     numbers: Reserved<u32>,
@@ -52,7 +52,7 @@ impl Tree {
     ghost use Rattle.dp_tree.specs.History.{Ask, Open, given};
     ghost use Rattle.dp_tree.specs.Table.{Row, row_of, fault_in, over_in, seat_fault_in, asked, opened};
     ghost use Rattle.dp_tree.specs.Table.{root_rows, numbers, place_of, IsNext};
-    ghost use Rattle.dp_tree.specs.Standing.{Stands, StandsAfter, StandsStill, FindsBy, AsksBy, OpensBy};
+    ghost use Rattle.dp_tree.specs.Standing.{Stands, StandsIfOk, StandsStill, FindsBy, AsksBy, OpensBy};
     ghost use Rattle.dp_tree.specs.Lists.{IsTrailOf, IsStateOf};
 
     /// A tree with the root alone, in which a query freezes the nodes below. The root is given its domain, its metric,
@@ -138,7 +138,7 @@ impl Tree {
         ensures verdict { AsksBy self.old node cost (result_err result) }
         ensures admitted { OnOk result (self.new ≡ asked self.old node query cost) }
         ensures kept { OnErr result (self.new ≡ self.old) }
-        ensures stands { OnOk result (StandsAfter self.old (Ask query node cost) self.new) }
+        ensures stands { StandsIfOk result self.old (Ask query node cost) self.new }
     {
         let at = self.place(node);
         if let Err(over) = charge(&mut self.states, at, cost) {
@@ -177,7 +177,7 @@ impl Tree {
         ensures verdict { OpensBy self.old node distance mapped budget.rule (result_err result) }
         ensures opened { OnOk result (self.new ≡ opened self.old node query (given domain metric distance budget)) }
         ensures kept { OnErr result (self.new ≡ self.old) }
-        ensures stands { let seat = given domain metric distance budget in OnOk result (StandsAfter self.old (Open query node seat mapped) self.new) }
+        ensures stands { StandsIfOk result self.old (Open query node (given domain metric distance budget) mapped) self.new }
     {
         let at = self.place(node);
         let depth = self.states.at(u64::from(at)).depth;
