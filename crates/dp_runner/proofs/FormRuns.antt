@@ -8,11 +8,13 @@ use Rattle.dp_runner.specs.Forms.{form_of, command_of, command_if, outcome}
 use Rattle.dp_runner.specs.Causes.{Runs}
 use Rattle.dp_runner.specs.Laws.{IsDone}
 
-pub of-form : (words : List (List ℕ)) (f : Form) (source : Source) (result : Result (Unit {0}) Stop) (told : Option Files) (before now : ℕ) (old new : Option (List ℕ)) (last : List ℕ)
+pub of-form : (words : List (List ℕ)) (f : Form) (source : Source) (result : Result (Unit {0}) Stop) (told : Option Files)
+    → (before now : ℕ) (old new : Option (List ℕ)) (last : List ℕ)
     → form_of words ≡ Some f → Runs result told (λ files. (command_of f).outcome files source) before now old new last
     → Runs result told (λ files. outcome words files source) before now old new last
 of-form words f source result told before now old new last is h =
-    subst (λ (o : Option Form). Runs result told (λ files. (command_if o).outcome files source) before now old new last) (sym is) h
+    subst (λ (o : Option Form). Runs result told (λ files. (command_if o).outcome files source) before now old new last)
+    (sym is) h
 
 -- what nothing stops in the command, nothing stops in the run
 pub form-done : (words : List (List ℕ)) (f : Form) (files : Files) (source : Source) (bytes : List ℕ)

@@ -5,6 +5,7 @@ pub mod FormRuns
 pub mod Lines
 pub mod PipelineSteps
 pub mod RecordCounts
+pub mod Refusals
 pub mod RunEnds
 pub mod Steps
 pub mod WordForms

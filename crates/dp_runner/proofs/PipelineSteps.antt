@@ -1,7 +1,8 @@
 -- The steps of reading a pipeline's file.
-use Rattle.std.proofs.Common.{◌≡◌, ◌∙◌, ◌^◌, ℕ, Bool, true, false, List, length, Option, Some, None, Ok, Err, refl, ap}
+use Rattle.std.proofs.Common.{◌≡◌, ◌∙◌, ◌<◌, ◌^◌, ℕ, Bool, true, false, List, length, Option, Some, None, Ok, Err, refl, ap}
 use Rattle.std.specs.Prelude.{if◌then◌else◌, nat_le}
 use Rattle.std.specs.Option.{ForSome}
+use Rattle.std.proofs.lemmas.Bool.{lt-leb}
 use Rattle.dp_count.specs.Results.{◌>>=◌}
 use Rattle.dp_io.specs.Shelf.{Files}
 use Rattle.dp_pipeline.specs.declared.content.Content.{Content}
@@ -22,6 +23,10 @@ accepted-long : (text : List ℕ) → nat_le (length text) (2 ^ 20) ≡ false �
 unfolding accepted
 accepted-long text long = rw long refl
 
+-- a text of more bytes than the limit is too long
+pub accepted-longer : (text : List ℕ) → 2 ^ 20 < length text → accepted text ≡ Err 9
+accepted-longer text longer = accepted-long text (lt-leb (length text) (2 ^ 20) longer)
+
 long-refused : (short : Bool) (text : List ℕ) (reason : Stop) → nat_le (length text) (2 ^ 20) ≡ short
     → (if short then Ok text else Err (stop.Pipeline size_refused)) ≡ Err reason → or_refused (accepted text) ≡ Err reason
 long-refused true text reason is h = absurd cc
@@ -38,11 +43,13 @@ found-refused None reason h =
 found-refused (Some text) reason h = long-refused (nat_le (length text) (2 ^ 20)) text reason refl h
 
 -- the file decides
-pub pipeline-no_text : (files : Files) (name : List ℕ) (reason : Stop) → pipeline_text files name ≡ Err reason → pipeline_at files name ≡ Err reason
+pub pipeline-no_text : (files : Files) (name : List ℕ) (reason : Stop) → pipeline_text files name ≡ Err reason
+    → pipeline_at files name ≡ Err reason
 unfolding pipeline_at
 pipeline-no_text files name reason h = found-refused (files name) reason h
 
-same-text : (short : Bool) (text read : List ℕ) → (if short then Ok text else Err (stop.Pipeline size_refused)) ≡ Ok read → text ≡ read
+same-text : (short : Bool) (text read : List ℕ)
+    → (if short then Ok text else Err (stop.Pipeline size_refused)) ≡ Ok read → text ≡ read
 same-text true text read h = cc
 same-text false text read h = absurd cc
 
@@ -53,7 +60,8 @@ found-text None read h = absurd cc
 found-text (Some text) read h = ap (λ t. or_refused (accepted t)) (same-text (nat_le (length text) (2 ^ 20)) text read h)
 
 -- the text decides
-pub pipeline-text : (files : Files) (name text : List ℕ) → pipeline_text files name ≡ Ok text → pipeline_at files name ≡ or_refused (accepted text)
+pub pipeline-text : (files : Files) (name text : List ℕ) → pipeline_text files name ≡ Ok text
+    → pipeline_at files name ≡ or_refused (accepted text)
 unfolding pipeline_at
 pipeline-text files name text h = found-text (files name) text h
 

@@ -1,5 +1,5 @@
 -- The pipeline of a file that a command names.
-use Rattle.std.specs.Prelude.{ℕ, ◌^◌, List, length, Result, Ok, Err, if◌then◌else◌, nat_le}
+use Rattle.std.specs.Prelude.{◌≤◌, ℕ, ◌^◌, List, length, Result, Ok, Err, if◌then◌else◌, nat_le}
 use Rattle.dp_count.specs.Results.{◌>>=◌}
 use Rattle.dp_io.specs.Shelf.{Files}
 use Rattle.dp_pipeline.specs.declared.content.Content.{Content}
@@ -24,3 +24,7 @@ unfoldable pub pipeline_at : Files → List ℕ → Result Content Stop
 pipeline_at files name = do
   text ← or_stop stop.ReadFault (files name)
   or_refused (accepted text)
+
+-- a number with which a text is refused
+abbrev pub IsNumber : ℕ → Type 0
+IsNumber c = (1 ≤ c) × (c ≤ 9)

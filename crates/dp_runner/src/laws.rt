@@ -1,5 +1,5 @@
 //! Where a run does its work. Each law is the contract of a function that does nothing.
-ghost use Rattle.dp_runner.specs.Laws.{CountLaw, CheckLaw};
+ghost use Rattle.dp_runner.specs.Laws.{CountLaw, CheckLaw, RefusalLaw, LongLaw};
 
 /// Where the words are of the form of `count`, its files are there and within their limits, and its draws are enough,
 /// the run writes the line of the answer and ends with 0.
@@ -11,4 +11,15 @@ pub fn count_law()
 /// the stages of the pipeline and ends with 0.
 pub fn check_law()
     ensures { CheckLaw }
+{}
+
+/// Where the words are of the form of `check`, its file is there and its text is refused with a number, the run writes
+/// nothing and stops with that number, which is from 1 to 9.
+pub fn refusal_law()
+    ensures { RefusalLaw }
+{}
+
+/// A text of more than 2^20 bytes is no pipeline: it is refused with 9.
+pub fn long_law()
+    ensures { LongLaw }
 {}

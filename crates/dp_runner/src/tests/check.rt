@@ -1,5 +1,5 @@
 use super::{Calls, NO_FAILURE, Shown, run, run_with};
-use crate::laws::check_law;
+use crate::laws::{check_law, long_law, refusal_law};
 use std::process::Abort;
 use std::test::Fail;
 
@@ -57,6 +57,7 @@ fn the_stages_of_a_pipeline_are_written(rt: HostRuntime) -> Result<(), Fail> {
 
 #[test]
 fn a_text_that_is_no_pipeline_is_refused_with_its_number(rt: HostRuntime) -> Result<(), Fail> {
+    refusal_law();
     for (text, line) in [
         (
             br#"{"version":1"#.as_slice(),
@@ -106,6 +107,7 @@ fn a_plan_that_is_not_made_is_refused_with_its_number(rt: HostRuntime) -> Result
 
 #[test]
 fn a_text_of_more_than_2_to_the_20_bytes_is_refused_with_9(rt: HostRuntime) -> Result<(), Fail> {
+    long_law();
     let calls = Calls {
         whole: true,
         ..NO_FAILURE

@@ -8,7 +8,8 @@ use Rattle.dp_runner.proofs.pipelines.pipeline_of.Goals as goal
 pub returns-in_err-text-clause-answers : goal.returns-in_err-text-clause-answers
 returns-in_err-text-clause-answers g c =
     let p = err_from_is_err_and c.from_residual.result c.from_residual.ensures.1 in
-    rw (p.1, p.2) (reason-carries c.in_err-text.field-0.0 _ (λ files. pipeline_text files c.args.name.now) (λ files. pipeline_at files c.args.name.now) _ _ _ _
+    rw (p.1, p.2) (reason-carries c.in_err-text.field-0.0 _ (λ files. pipeline_text files c.args.name.now)
+    (λ files. pipeline_at files c.args.name.now) _ _ _ _
     (λ files is h. pipeline-no_text files c.args.name.now _ h) (omega arith) (omega arith) c.in_err-text.ensures.answers)
 
 pub returns-in_err-read_pipeline-clause-answers : goal.returns-in_err-read_pipeline-clause-answers
