@@ -44,6 +44,18 @@ mkdir folder
 mkfifo fifo
 truncate -s 67108865 long
 truncate -s 67108864 large
+cp "$here/examples/census.json" census
+stages='root rows 3 symmetric 1
+budget filter 20
+plan women
+filter rows 3 symmetric 1
+count int 0 1073741824 absolute 1
+geometric draws 13 loss 1
+accepted'
+printf '{"version":1' >cut
+printf '{"version":1,"header":false,"ratio":[1,2],"distance":1,"root":["odometer"],"plans":{}}' >columnless
+printf '{"version":1,"columns":["sex"],"header":false,"ratio":[2,2],"distance":1,"root":["odometer"],"plans":{}}' >even
+truncate -s 1048577 lengthy
 
 # The statuses and their lines.
 case_of 'an answer' 0 'answer 3' '' '"$dp" count data draws 0 5'
@@ -53,6 +65,23 @@ case_of 'a word that is no text' 2 '' 'dp: usage' '"$dp" count data draws 0 $'"'
 case_of 'too few draws' 6 '' 'dp: draw fault' '"$dp" count data few 0 5'
 case_of 'a file of draws that is too long' 7 '' 'dp: too long' '"$dp" count data long 0 5'
 case_of 'too little memory' 9 '' 'dp: no memory' 'ulimit -v 60000; "$dp" count large draws 0 5'
+
+# Pipelines.
+case_of 'the stages of a pipeline' 0 "$stages" '' '"$dp" check census'
+case_of 'a pipeline on the standard input' 0 "$stages" '' '"$dp" check - <census'
+case_of 'no pipeline' 2 '' 'dp: usage' '"$dp" check'
+case_of 'two pipelines' 2 '' 'dp: usage' '"$dp" check census census'
+case_of 'a pipeline without a name' 2 '' 'dp: usage' '"$dp" check ""'
+case_of 'a pipeline that is no JSON text' 3 '' 'dp: pipeline refused 6' '"$dp" check cut'
+case_of 'an empty pipeline' 3 '' 'dp: pipeline refused 6' '"$dp" check /dev/null'
+case_of 'a pipeline without columns' 3 '' 'dp: pipeline refused 7' '"$dp" check columnless'
+case_of 'a pipeline with a ratio of one' 3 '' 'dp: pipeline refused 8' '"$dp" check even'
+case_of 'a pipeline that is too long' 3 '' 'dp: pipeline refused 9' '"$dp" check lengthy'
+case_of 'a missing pipeline' 4 '' 'dp: read fault' '"$dp" check missing'
+case_of 'a folder as a pipeline' 4 '' 'dp: read fault' '"$dp" check folder'
+case_of 'stages for an output that is full' 5 '' 'dp: write fault' '"$dp" check census >/dev/full'
+case_of 'stages for a closed output' 5 '' 'dp: write fault' '"$dp" check census >&-'
+case_of 'a refusal for an error output that is full' 3 '' '' '"$dp" check cut 2>/dev/full'
 
 # Files.
 case_of 'a missing file of records' 4 '' 'dp: read fault' '"$dp" count missing draws 0 5'

@@ -17,15 +17,18 @@ use std::alloc::Global;
 
 /// Does all that the program does, and gives the status that it ends with.
 ///
-/// `words` are the words of the command line without the program's own name. The one form of words is
-/// `count DATA DRAWS LO HI`: it counts the CSV records of the file DATA and writes `answer A`, A being the geometric
-/// release of that number with the ratio 1/2 and the range LO..HI, from the draws in the file DRAWS. It does not use
-/// the draw source that is handed in.
+/// `words` are the words of the command line without the program's own name. They have one of two forms, neither of
+/// which uses the draw source that is handed in:
+///
+/// - `count DATA DRAWS LO HI` counts the CSV records of the file DATA and writes `answer A`, A being the geometric
+///   release of that number with the ratio 1/2 and the range LO..HI, from the draws in the file DRAWS;
+/// - `check P` reads the pipeline of the file P and writes its stages.
 ///
 /// | status | line on `err` | comes |
 /// |---|---|---|
-/// | 0 | none | the answer was written |
+/// | 0 | none | all lines of the command were written |
 /// | 2 | `dp: usage` | exactly where the words are of no form |
+/// | 3 | `dp: pipeline refused c` | exactly where the text of P is refused with the number c, and no earlier fault came |
 /// | 4 | `dp: read fault` | only where the shelf's count of faults rose, or where it tells its files and lacks one |
 /// | 5 | `dp: write fault` | only where the count of faults of `out` rose |
 /// | 6 | `dp: draw fault` | exactly where DRAWS has too few numbers or one out of range, and no other fault came |
