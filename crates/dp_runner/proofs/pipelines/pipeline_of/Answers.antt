@@ -16,9 +16,9 @@ pub returns-in_err-read_pipeline-clause-answers : goal.returns-in_err-read_pipel
 returns-in_err-read_pipeline-clause-answers g c =
     let p = err_from_is_err_and c.from_residual-in_err-read_pipeline.result c.from_residual-in_err-read_pipeline.ensures.1 in
     rw (p.1, p.2) (pipeline-refused c.in_err-read_pipeline.field-0.0 (g.S.Shelf.files c.args.shelf.now) c.args.name.now c.in_ok-text.text.items _ _
-    c.in_ok-text.ensures.answers (rw c.as_slice.ensures.value at c.in_err-read_pipeline.ensures))
+    c.in_ok-text.ensures.answers (rw c.as_slice.ensures.value at c.in_err-read_pipeline.ensures.answers))
 
 pub returns-clause-answers : goal.returns-clause-answers
 returns-clause-answers g c = λ files is.
     pipeline-text files c.args.name.now c.in_ok-text.text.items (c.in_ok-text.ensures.answers files is)
-    ∙ ap or_refused (rw c.as_slice.ensures.value at c.in_ok-read_pipeline.ensures)
+    ∙ ap or_refused (rw c.as_slice.ensures.value at c.in_ok-read_pipeline.ensures.answers)
