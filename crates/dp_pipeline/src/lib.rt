@@ -21,6 +21,7 @@ mod stages;
 pub use content::Siblings;
 pub use faults::{PipelineFault, PrintFault, QueryFault};
 pub use pipeline::{Pipeline, read_pipeline};
+pub use place::Place;
 pub use plan::{Plan, Plans};
 pub use printing::print_stages;
 pub use query::{Query, read_query};

@@ -174,8 +174,8 @@ impl Pipeline {
         self.content.siblings
     }
 
-    /// Where the plans are made.
-    pub(crate) fn place(&self) -> Place
+    /// The records' domain, metric and distance: where the plans are made.
+    pub fn place(&self) -> Place
         ensures { result ≡ root_place self.now }
     {
         root_place(&self.content)

@@ -9,9 +9,9 @@ use dp_law::{MakeFault, Transformation};
 use std::alloc::Global;
 use std::marker::Model;
 
-/// A domain, a metric, and the distance of values there, at most 2^32.
+/// Where stages and noises are made: a domain, a metric, and the distance of values there, at most 2^32.
 #[derive(Clone, Copy, Debug)]
-pub(crate) struct Place {
+pub struct Place {
     domain: Domain,
     metric: Metric,
     distance: u64,
@@ -41,7 +41,7 @@ impl Model for Place {
 
 impl Place {
     /// The place of a domain, a metric and a distance.
-    pub(crate) fn new(domain: Domain, metric: Metric, distance: u64) -> Place
+    pub fn new(domain: Domain, metric: Metric, distance: u64) -> Place
         requires fits { Fits domain }
         requires within { distance ≤ 2 ^ 32 }
         ensures { result ≡ record { domain = domain; metric = metric; distance = distance } }
@@ -54,7 +54,7 @@ impl Place {
     }
 
     /// The domain.
-    pub(crate) fn domain(&self) -> Domain
+    pub fn domain(&self) -> Domain
         ensures domain { result ≡ self.now.domain }
         ensures fits { Fits result }
     {
@@ -62,14 +62,14 @@ impl Place {
     }
 
     /// The metric.
-    pub(crate) fn metric(&self) -> Metric
+    pub fn metric(&self) -> Metric
         ensures { result ≡ self.now.metric }
     {
         self.metric
     }
 
     /// The distance.
-    pub(crate) fn distance(&self) -> u64
+    pub fn distance(&self) -> u64
         ensures distance { result ≡ self.now.distance }
         ensures within { result ≤ 2 ^ 32 }
     {

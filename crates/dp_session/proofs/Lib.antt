@@ -1,0 +1,4 @@
+pub mod Costs
+pub mod Grants
+pub mod Roots
+pub mod Standing

@@ -1,0 +1,5 @@
+pub mod Accounts
+pub mod QueryLines
+pub mod Settling
+pub mod Works
+pub mod Verdicts

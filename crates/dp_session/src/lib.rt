@@ -1,0 +1,19 @@
+//! Runs of queries on one pipeline. Each line is accepted or has its refusal, by the lines before it alone, and its line
+//! is written with what it cost and what is spent; a last line tells how many queries there were. An account does so
+//! without data.
+#![tactic(auto)]
+
+mod account;
+mod end_line;
+mod faults;
+mod judge;
+mod queries;
+mod refusal;
+mod task;
+mod text;
+mod work;
+
+pub use account::Account;
+pub use faults::{AccountFault, EndFault};
+pub use refusal::Refusal;
+
