@@ -1,5 +1,6 @@
 pub mod Accounts
 pub mod QueryLines
+pub mod Runs
 pub mod Settling
 pub mod Works
 pub mod Verdicts
