@@ -6,3 +6,6 @@ pub mod Lists
 pub mod Kept
 pub mod Changes
 pub mod Opening
+pub mod Accounts
+pub mod Losses
+pub mod Freezing

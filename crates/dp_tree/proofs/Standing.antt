@@ -14,7 +14,7 @@ use Rattle.dp_tree.proofs.Nodes.{made, none-or-some, node-le, node-kept, last-le
 use Rattle.dp_tree.proofs.Walks.{row-node, over-is}
 
 -- the accounts after a query: the node's is charged
-account-here : (past : List Event) (e : Event) (i : ℕ) (rule : Rule) → node_of e ≡ i → account (e ∷ past) i rule ≡ charged (account past i rule) (cost_of e)
+pub account-here : (past : List Event) (e : Event) (i : ℕ) (rule : Rule) → node_of e ≡ i → account (e ∷ past) i rule ≡ charged (account past i rule) (cost_of e)
 account-here past e i rule h =
     let s : spent (e ∷ past) i ≡ spent past i + cost_of e
     = sum_by-cons (λ (x : Event). cond (eqb (node_of x) i) (cost_of x) 0) e past ∙ rw (h, eqb-same i) (omega arith) in
@@ -28,7 +28,7 @@ account-here past e i rule h =
     more a b = omega arith
 
 -- and the others stay
-account-other : (past : List Event) (e : Event) (i : ℕ) (rule : Rule) → node_of e ≢ i → account (e ∷ past) i rule ≡ account past i rule
+pub account-other : (past : List Event) (e : Event) (i : ℕ) (rule : Rule) → node_of e ≢ i → account (e ∷ past) i rule ≡ account past i rule
 account-other past e i rule h =
     let s : spent (e ∷ past) i ≡ spent past i
     = sum_by-cons (λ (x : Event). cond (eqb (node_of x) i) (cost_of x) 0) e past ∙ rw (eqb-other (node_of e) i h) (omega arith) in
@@ -95,7 +95,7 @@ ask-stands root past t i number cost row s later found within = record {
 }
 
 -- nothing was addressed to a node whose number is still to come
-account-new : (root : Seat) (past : List Event) (i : ℕ) (rule : Rule) → Accepted root past → newest past < i → account past i rule ≡ fresh rule
+pub account-new : (root : Seat) (past : List Event) (i : ℕ) (rule : Rule) → Accepted root past → newest past < i → account past i rule ≡ fresh rule
 account-new root [] i rule a later = let e : 0 * turn rule ≡ 0 = omega arith in rw e refl
 account-new root (e ∷ past) i rule a later =
     let node = none-or-some (node_at root past (node_of e)) a.2 in

@@ -2,3 +2,4 @@ pub mod History
 pub mod Table
 pub mod Standing
 pub mod Lists
+pub mod Losses

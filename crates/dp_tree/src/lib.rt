@@ -5,6 +5,7 @@
 
 mod charge;
 mod faults;
+pub mod laws;
 mod places;
 mod states;
 mod tree;
