@@ -5,4 +5,8 @@ pub mod NoiseInputs
 pub mod ReleaseMaking
 pub mod ReleaseSteps
 pub mod StageInputs
+pub mod StageLaws
 pub mod ZeroLoss
+pub mod NoiseLaws
+pub mod LineLaws
+pub mod ReleaseLaws

@@ -1,9 +1,9 @@
 -- Parts of a release that are made, one after the other.
-use Rattle.std.proofs.Common.{◌≡◌, ℕ, suc, ◌+◌, ◌<◌, ◌≤◌, List, [], ◌∷◌, ◌++◌, map, length, drop, Option, Some, None, Ok, Err, refl, sym, subst, ◌∙◌, ap, append_assoc, append-nil, arith}
+use Rattle.std.proofs.Common.{◌≡◌, ℕ, ◌+◌, ◌<◌, ◌≤◌, List, [], ◌∷◌, ◌++◌, map, length, drop, Option, Some, Ok, Err, refl, sym, subst, ◌∙◌, ap, append_assoc, append-nil, arith}
 use Rattle.std.specs.Prelude.{Result, slice_index_or, option_and_then}
 use Rattle.std.proofs.lemmas.List.{drop_all, map-append}
 use Rattle.dp_count.specs.Results.{◌>>=◌, on_ok}
-use Rattle.dp_num.specs.Limits.{Fraction, capped}
+use Rattle.dp_num.specs.Limits.{Fraction}
 use Rattle.dp_domain.specs.declared.domains.Domain.{Domain}
 use Rattle.dp_domain.specs.declared.metrics.Metric.{Metric}
 use Rattle.dp_domain.specs.Domains.{Fits}
@@ -31,7 +31,7 @@ use Rattle.dp_chain.proofs.ZeroLoss.{LossZero, noise-zero, stages-zero}
 abbrev pub noise_after : Fraction → Noise → Result Mapping Refused → Result Mechanism Refused
 noise_after ratio noise made = made >>= (λ line. noise_on ratio noise line.output_domain line.output_metric >>= (λ last. Ok (measured line last)))
 
-part-more : (ratio : Fraction) (part : Part) (d : Domain) (m : Metric) → part_on ratio part d m ≡ noise_after ratio part.noise (line_on part.stages d m)
+pub part-more : (ratio : Fraction) (part : Part) (d : Domain) (m : Metric) → part_on ratio part d m ≡ noise_after ratio part.noise (line_on part.stages d m)
 unfolding part_on
 part-more ratio part d m = refl
 
@@ -76,11 +76,11 @@ noise-at ratio n d to m to_metric made domains metrics is =
 abbrev pub first_and : Fraction → Result Mechanism Refused → List Part → Domain → Metric → Result (List Mechanism) Refused
 first_and ratio made parts d m = made >>= (λ first. parts_on ratio parts d m >>= (λ rest. Ok (first ∷ rest)))
 
-parts-more : (ratio : Fraction) (part : Part) (parts : List Part) (d : Domain) (m : Metric) → parts_on ratio (part ∷ parts) d m ≡ first_and ratio (part_on ratio part d m) parts d m
+pub parts-more : (ratio : Fraction) (part : Part) (parts : List Part) (d : Domain) (m : Metric) → parts_on ratio (part ∷ parts) d m ≡ first_and ratio (part_on ratio part d m) parts d m
 unfolding parts_on
 parts-more ratio part parts d m = refl
 
-parts-none : (ratio : Fraction) (d : Domain) (m : Metric) → parts_on ratio [] d m ≡ Ok []
+pub parts-none : (ratio : Fraction) (d : Domain) (m : Metric) → parts_on ratio [] d m ≡ Ok []
 unfolding parts_on
 parts-none ratio d m = refl
 
@@ -122,7 +122,7 @@ part-zero_by ratio n (Ok line) made zero_is is =
     noise-zero_by line (noise_on ratio n line.output_domain line.output_metric) made (zero_is line refl) (noise-zero ratio n line.output_domain line.output_metric) is
 part-zero_by ratio n (Err refusal) made zero_is is = absurd (cc)
 
-part-zero : (ratio : Fraction) (part : Part) (d : Domain) (m : Metric) (made : Mechanism) → part_on ratio part d m ≡ Ok made → made.privacy_map 0 ≡ Some 0
+pub part-zero : (ratio : Fraction) (part : Part) (d : Domain) (m : Metric) (made : Mechanism) → part_on ratio part d m ≡ Ok made → made.privacy_map 0 ≡ Some 0
 part-zero ratio part d m made is =
     part-zero_by ratio part.noise (line_on part.stages d m) made
     (λ line line_is. line-zero_by d m (stages_on part.stages d m) line (stages-zero part.stages d m) line_is)
@@ -148,7 +148,7 @@ pub alike-nil : (ratio : Fraction) (d : Domain) (m : Metric) → AreAlike ratio 
 unfolding AreAlike
 alike-nil ratio d m = tt
 
-alike-cons : (ratio : Fraction) (d : Domain) (m : Metric) (first : Mechanism) (rest : List Mechanism) → IsLike ratio d m first → AreAlike ratio d m rest → AreAlike ratio d m (first ∷ rest)
+pub alike-cons : (ratio : Fraction) (d : Domain) (m : Metric) (first : Mechanism) (rest : List Mechanism) → IsLike ratio d m first → AreAlike ratio d m rest → AreAlike ratio d m (first ∷ rest)
 unfolding AreAlike
 alike-cons ratio d m first rest like alike = (like, alike)
 

@@ -1,4 +1,5 @@
 pub mod Joins
+pub mod Laws
 pub mod Lines
 pub mod LinesProof
 pub mod Meanings

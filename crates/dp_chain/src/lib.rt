@@ -7,6 +7,7 @@ mod any_transformation;
 mod both;
 mod chain;
 mod faults;
+pub mod laws;
 mod line;
 mod measured;
 mod noise;

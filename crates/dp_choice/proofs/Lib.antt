@@ -1,2 +1,2 @@
-mod Conditions
+pub mod Conditions
 mod Tables
