@@ -1,5 +1,5 @@
 -- Stages that are made, one after the other.
-use Rattle.std.proofs.Common.{◌≡◌, ℕ, List, [], ◌∷◌, ◌++◌, map, Ok, Err, refl, sym, subst, ◌∙◌, ap, append_assoc}
+use Rattle.std.proofs.Common.{◌≡◌, List, [], ◌∷◌, ◌++◌, Ok, Err, refl, sym, subst, ◌∙◌, ap, append_assoc}
 use Rattle.std.specs.Prelude.{Result}
 use Rattle.dp_count.specs.Results.{◌>>=◌, on_ok}
 use Rattle.dp_domain.specs.declared.domains.Domain.{Domain}

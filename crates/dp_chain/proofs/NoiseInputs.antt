@@ -1,5 +1,5 @@
 -- A noise that is made takes the domain, the metric and the ratio on which it is made, with few draws.
-use Rattle.std.proofs.Common.{◌≡◌, ℕ, ℤ, ◌+◌, ◌*◌, ◌≤◌, ◌^◌, Bool, true, false, cond, Option, Some, None, Ok, Err, length, refl, sym, arith}
+use Rattle.std.proofs.Common.{◌≡◌, ℕ, ℤ, ◌+◌, ◌*◌, ◌≤◌, ◌^◌, Bool, true, false, cond, Option, Some, None, Ok, Err, refl, arith}
 use Rattle.std.specs.Prelude.{Result, nat_le}
 use Rattle.std.proofs.Math.Nat.{mul-le-mul}
 use Rattle.dp_num.specs.Limits.{Fraction, powers}
@@ -13,7 +13,7 @@ use Rattle.dp_law.specs.declared.refusals.Refused.TheVariants as refused
 use Rattle.dp_law.specs.Mechanism.{Mechanism}
 use Rattle.dp_domain.specs.Ranges.{is_narrow_range}
 use Rattle.dp_domain.proofs.NarrowRanges.{narrow-range}
-use Rattle.dp_geometric.specs.Geometric.{geometric, geometric_with, noise_shape}
+use Rattle.dp_geometric.specs.Geometric.{geometric, geometric_with}
 use Rattle.dp_geometric.specs.OneCell.{width}
 use Rattle.dp_geometric.specs.GeometricProof.{length-cell, length-cells, narrow-width}
 use Rattle.dp_response.specs.Response.{response, response_with, draw_bound}

@@ -1,7 +1,7 @@
 -- The first of the parts of a release and those after it, for parts that stand for measurements by f.
-use Rattle.std.proofs.Common.{◌≡◌, ℕ, ◌+◌, ◌<◌, ◌≤◌, ◌^◌, List, [], ◌∷◌, ◌++◌, map, length, take, drop, Option, Some, None, Ok, Err, refl, sym, subst, ◌∙◌, ap, arith, length-append}
+use Rattle.std.proofs.Common.{◌≡◌, ℕ, ◌+◌, ◌≤◌, ◌^◌, List, [], ◌∷◌, ◌++◌, map, length, take, drop, Option, Some, None, Ok, Err, refl, sym, subst, ◌∙◌, ap, arith, length-append}
 use Rattle.std.specs.Prelude.{Result, option_map}
-use Rattle.dp_draws.specs.Taking.{Turn, Taken, take_draws}
+use Rattle.dp_draws.specs.Taking.{Turn, Taken}
 use Rattle.dp_draws.proofs.Taking.{take_draws-none}
 use Rattle.dp_domain.specs.declared.values.Value.{Value}
 use Rattle.dp_domain.specs.Domains.{Has}
@@ -9,7 +9,7 @@ use Rattle.dp_law.specs.declared.pieces.Piece.{Piece}
 use Rattle.dp_law.specs.declared.faults.ReleaseFault.{ReleaseFault}
 use Rattle.dp_law.specs.Mechanism.{Mechanism}
 use Rattle.dp_law.specs.Joining.{added}
-use Rattle.dp_law.specs.Releasing.{Released, TakesFront}
+use Rattle.dp_law.specs.Releasing.{Released}
 use Rattle.dp_law.specs.declared.faults.ReleaseFault.TheVariants as fault
 use Rattle.dp_num.specs.Limits.{capped, Fraction}
 use Rattle.dp_domain.specs.declared.domains.Domain.{Domain}

@@ -1,20 +1,17 @@
 -- A stage and a noise that are made take the domain and the metric on which they are made.
-use Rattle.std.proofs.Common.{◌≡◌, Bool, true, false, ◌&&◌, ℕ, Option, Some, None, Ok, Err, List, [], ◌∷◌, refl, sym, ◌∙◌, arith}
-use Rattle.std.specs.Prelude.{Result, if◌then◌else◌, nat_lt, nat_le}
-use Rattle.dp_num.specs.Limits.{Fraction, powers}
+use Rattle.std.proofs.Common.{◌≡◌, Bool, true, false, ◌&&◌, ℕ, Option, Some, None, Ok, Err, refl}
+use Rattle.std.specs.Prelude.{Result, if◌then◌else◌, nat_lt}
 use Rattle.dp_domain.specs.declared.domains.Domain.{Domain}
 use Rattle.dp_domain.specs.declared.domains.Domain.TheVariants as domain
 use Rattle.dp_domain.specs.declared.metrics.Metric.{Metric}
 use Rattle.dp_domain.specs.declared.metrics.Metric.TheVariants as metrics
 use Rattle.dp_law.specs.declared.refusals.Refused.{Refused}
 use Rattle.dp_law.specs.declared.refusals.Refused.TheVariants as refused
-use Rattle.dp_law.specs.Making.{tested, is_symmetric, is_change_one, list_metric, is_list_metric, is_unsized}
+use Rattle.dp_law.specs.Making.{tested, is_symmetric, is_change_one, list_metric, is_list_metric}
 use Rattle.dp_law.specs.Mapping.{Mapping}
-use Rattle.dp_law.specs.Mechanism.{Mechanism}
 use Rattle.dp_rowwise.specs.Filter.{compares_rows}
 use Rattle.dp_aggregate.specs.OneNumber.{is_absolute}
-use Rattle.dp_aggregate.specs.Count.{has_lists, has_unsized_lists, count_mapping, count_from}
-use Rattle.dp_chain.specs.Lines.{stages_on, AreJoined}
+use Rattle.dp_aggregate.specs.Count.{has_lists, has_unsized_lists, count_mapping}
 use Rattle.dp_chain.specs.Stages.{stage_on}
 use Rattle.dp_chain.specs.declared.stage.Stage.{Stage}
 use Rattle.dp_chain.specs.declared.stage.Stage.TheVariants as stage

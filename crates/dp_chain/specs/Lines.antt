@@ -1,5 +1,5 @@
 -- Lines of stages: each stage is made on what the stage before gives.
-use Rattle.std.specs.Prelude.{◌≡◌, ℕ, List, [], ◌∷◌, Option, Result, Ok, Err, option_and_then}
+use Rattle.std.specs.Prelude.{◌≡◌, ℕ, List, [], ◌∷◌, Option, Result, Ok, option_and_then}
 use Rattle.dp_count.specs.Results.{◌>>=◌, on_ok}
 use Rattle.dp_num.specs.Limits.{capped}
 use Rattle.dp_domain.specs.declared.domains.Domain.{Domain}

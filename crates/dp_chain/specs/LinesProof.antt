@@ -1,14 +1,12 @@
 -- A line of stable transformations is stable, and how it grows.
-use Rattle.std.proofs.Common.{◌≡◌, ℕ, List, [], ◌∷◌, ◌++◌, map, refl, sym, subst, arith}
+use Rattle.std.proofs.Common.{◌≡◌, ℕ, List, [], ◌∷◌, ◌++◌, map, refl, subst}
 use Rattle.std.proofs.Props.{props}
 use Rattle.dp_domain.specs.declared.domains.Domain.{Domain}
 use Rattle.dp_domain.specs.declared.metrics.Metric.{Metric}
-use Rattle.dp_domain.specs.declared.values.Value.{Value}
 use Rattle.dp_domain.specs.Domains.{Fits}
 use Rattle.dp_domain.specs.Metrics.{Within}
 use Rattle.dp_law.proofs.Caps.{capped-same, capped-le}
 use Rattle.dp_law.proofs.ChainingLaw.{chained_law}
-use Rattle.dp_law.specs.Joining.{chained}
 use Rattle.dp_law.specs.Mapping.{Mapping, IsStable}
 use Rattle.dp_chain.specs.Lines.{line_value, line_map, end_domain, end_metric, composed, AreJoined}
 

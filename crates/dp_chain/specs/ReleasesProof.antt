@@ -1,8 +1,7 @@
 -- Private measurements on one input are private as one.
-use Rattle.std.proofs.Common.{◌≡◌, ℕ, suc, ◌+◌, ◌*◌, ◌≤◌, ◌^◌, List, [], ◌∷◌, length, map, Some, refl, sym, subst, ◌∙◌, arith, length-append}
+use Rattle.std.proofs.Common.{◌≡◌, ℕ, ◌+◌, ◌*◌, ◌≤◌, ◌^◌, List, [], ◌∷◌, length, map, refl, sym, subst, arith, length-append}
 use Rattle.std.proofs.Math.Nat.{suc-mul}
 use Rattle.std.proofs.Props.{props}
-use Rattle.std.specs.Prelude.{All}
 use Rattle.std.proofs.lemmas.List.Elements.{All-nil}
 use Rattle.std.proofs.lemmas.List.{length-map}
 use Rattle.dp_count.specs.Ratios.{KeepsRatio}
@@ -13,7 +12,6 @@ use Rattle.dp_domain.specs.declared.metrics.Metric.{Metric}
 use Rattle.dp_domain.specs.Domains.{Fits}
 use Rattle.dp_domain.specs.Metrics.{SuitsMetric}
 use Rattle.dp_law.specs.Mechanism.{Mechanism, IsPrivate, IsBound, IsBelowOne, ways}
-use Rattle.dp_law.specs.Joining.{both}
 use Rattle.dp_law.proofs.JoiningLaw.{both_law}
 use Rattle.dp_chain.specs.Releases.{joined_shape, joined_answer, all_pieces, total_loss, joined, IsLike, AreAlike}
 

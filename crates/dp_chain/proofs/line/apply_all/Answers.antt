@@ -1,4 +1,4 @@
-use Rattle.std.proofs.Common.{◌≡◌, sym, subst, map, drop, ◌+◌}
+use Rattle.std.proofs.Common.{sym, subst, map, drop, ◌+◌}
 use Rattle.dp_domain.specs.declared.values.Value.{Value}
 use Rattle.dp_chain.specs.Lines.{Runs}
 use Rattle.dp_chain.specs.contracts.any_transformation.AnyTransformationTransformation.TheImpl.{mapping-value}

@@ -1,9 +1,6 @@
-use Rattle.std.proofs.Common.{◌≡◌, ◌∙◌, ◌++◌, ◌∷◌, [], List, map, sym, refl, subst, ap, Ok, Err}
-use Rattle.std.proofs.lemmas.List.{map-append}
+use Rattle.std.proofs.Common.{◌∙◌, List, map, sym, subst, ap}
 use Rattle.dp_domain.specs.declared.domains.Domain.{Domain}
-use Rattle.dp_domain.specs.declared.metrics.Metric.{Metric}
 use Rattle.dp_domain.specs.Domains.{Fits}
-use Rattle.dp_law.specs.Mapping.{Mapping}
 use Rattle.dp_chain.specs.contracts.any_transformation.AnyTransformationTransformation.TheImpl.{mapping-value}
 use Rattle.dp_chain.specs.contracts.any_transformation.AnyTransformationTransformation.TheImpl.Laws.{law-law}
 use Rattle.dp_chain.specs.contracts.line.LineTransformation.TheImpl.{mapping-value as line_mapping-value}

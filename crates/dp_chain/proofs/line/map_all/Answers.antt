@@ -1,7 +1,5 @@
 use Rattle.dp_chain.specs.contracts.any_transformation.AnyTransformationTransformation.TheImpl.{mapping-value}
-use Rattle.std.proofs.Common.{◌≡◌, sym, ◌∙◌, ap, arith, map}
-use Rattle.std.proofs.lemmas.List.{drop_all}
-use Rattle.dp_chain.specs.Lines.{line_map}
+use Rattle.std.proofs.Common.{sym}
 use Rattle.dp_chain.specs.contracts.any_transformation.AnyTransformationTransformation.TheImpl.Laws.{law-law}
 use Rattle.dp_chain.proofs.LineSteps.{map-more, map-past, map-end}
 use Rattle.dp_chain.proofs.line.map_all.Goals as goal

@@ -1,4 +1,4 @@
-use Rattle.std.proofs.Common.{◌≡◌, length, sym, ap, arith, ◌∙◌, ◌++◌, List, ℕ}
+use Rattle.std.proofs.Common.{length, sym, ap, arith, ◌∙◌, ◌++◌}
 use Rattle.dp_chain.specs.PartMeanings.{part_mechanism}
 use Rattle.dp_chain.proofs.ReleaseSteps.{shape-none, shape-first, draws-first}
 use Rattle.dp_chain.proofs.release.+joined_shape.Goals as goal

@@ -1,4 +1,4 @@
-use Rattle.std.proofs.Common.{◌≡◌, length, sym, ap, arith, ◌∙◌}
+use Rattle.std.proofs.Common.{arith}
 use Rattle.dp_chain.specs.PartMeanings.{part_mechanism}
 use Rattle.dp_chain.proofs.ReleaseSteps.{released-none, input-first, first-stops, rest-stops, no-room, all-answer}
 use Rattle.dp_chain.proofs.release.+release_each.Goals as goal

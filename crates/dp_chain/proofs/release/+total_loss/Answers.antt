@@ -1,4 +1,4 @@
-use Rattle.std.proofs.Common.{◌≡◌, sym, ◌∙◌, map}
+use Rattle.std.proofs.Common.{sym, ◌∙◌, map}
 use Rattle.dp_chain.specs.PartMeanings.{part_mechanism}
 use Rattle.dp_chain.proofs.ReleaseSteps.{loss-none, loss-past, rest-past, losses-add, total-le}
 use Rattle.dp_chain.proofs.release.+total_loss.Goals as goal

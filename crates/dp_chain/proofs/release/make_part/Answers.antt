@@ -1,11 +1,9 @@
-use Rattle.std.proofs.Common.{◌≡◌, ◌∙◌, map, sym, subst, ap, Ok, Err}
+use Rattle.std.proofs.Common.{◌≡◌, ◌∙◌, sym, subst, ap, Ok, Err}
 use Rattle.dp_num.specs.Limits.{Fraction}
 use Rattle.dp_domain.specs.declared.domains.Domain.{Domain}
 use Rattle.dp_domain.specs.declared.metrics.Metric.{Metric}
 use Rattle.dp_domain.specs.Domains.{Fits}
-use Rattle.dp_law.specs.declared.refusals.Refused.{Refused}
 use Rattle.dp_law.specs.Making.{MakesOr}
-use Rattle.dp_law.specs.Mechanism.{Mechanism}
 use Rattle.dp_law.specs.Joining.{measured}
 use Rattle.dp_chain.specs.declared.any_measurement.AnyMeasurement.{AnyMeasurement}
 use Rattle.dp_chain.specs.declared.line.Line.{Line}

@@ -1,4 +1,4 @@
-use Rattle.std.proofs.Common.{◌≡◌, ◌∙◌, ◌++◌, ◌∷◌, [], List, map, length, ap, sym, subst, Ok, arith, length-append}
+use Rattle.std.proofs.Common.{◌∙◌, ◌∷◌, [], List, map, length, ap, sym, subst, arith, length-append}
 use Rattle.std.specs.Prelude.{Result}
 use Rattle.dp_num.specs.Limits.{Fraction}
 use Rattle.dp_law.specs.declared.refusals.Refused.{Refused}

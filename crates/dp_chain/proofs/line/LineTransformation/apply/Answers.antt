@@ -3,7 +3,7 @@ use Rattle.std.proofs.lemmas.Result.{IfOk-weaker}
 use Rattle.dp_domain.specs.Domains.{Has}
 use Rattle.dp_law.proofs.Landing.{lands_at}
 use Rattle.dp_chain.specs.declared.any_transformation.AnyTransformation.{AnyTransformation}
-use Rattle.dp_chain.specs.Lines.{Runs, line_value, composed, end_domain}
+use Rattle.dp_chain.specs.Lines.{Runs, line_value, composed}
 use Rattle.dp_chain.specs.LinesProof.{line_law}
 use Rattle.dp_chain.specs.contracts.any_transformation.AnyTransformationTransformation.TheImpl.{mapping-value}
 use Rattle.dp_chain.specs.contracts.any_transformation.AnyTransformationTransformation.TheImpl.Laws.{law-law}

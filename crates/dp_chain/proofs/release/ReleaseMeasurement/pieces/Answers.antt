@@ -1,4 +1,4 @@
-use Rattle.std.proofs.Common.{List, map, length, ◌≤◌, ◌^◌, sym, subst}
+use Rattle.std.proofs.Common.{List, map, ◌≤◌, ◌^◌, sym, subst}
 use Rattle.dp_chain.specs.Releases.{all_pieces}
 use Rattle.dp_chain.specs.contracts.release.ReleaseMeasurement.TheImpl.Laws.{law-law}
 use Rattle.dp_chain.specs.PartMeanings.{MeasuredLine, part_mechanism}
