@@ -1,6 +1,5 @@
 -- A cost and a mapped distance are numbers of units.
 use Rattle.std.proofs.Common.{◌≡◌, ℕ, ◌≤◌, ◌^◌, Bool, true, false, cond, length, nat_le, Option, Some, None, Ok, Err}
-use Rattle.dp_chain.specs.declared.faults.CostFault.{CostFault}
 use Rattle.dp_chain.specs.declared.faults.CostFault.TheVariants as cost_fault
 use Rattle.dp_chain.specs.Releases.{cost_within, cost_of}
 use Rattle.dp_law.specs.Mechanism.{Mechanism, IsPrivate}

@@ -1,8 +1,8 @@
 -- The root of a tree has a row, which tells what it has spent, and keeps it.
-use Rattle.std.proofs.Common.{◌≡◌, ℕ, ◌+◌, ◌<◌, Option, Some, None, IsSome, IfSome, List, [], ◌∷◌, ◌++◌, map, length, slice_get, refl, sym, ◌∙◌, ap, subst, arith, cond, eqb}
+use Rattle.std.proofs.Common.{◌≡◌, ℕ, ◌+◌, Option, Some, None, IsSome, IfSome, List, [], ◌∷◌, ◌++◌, length, slice_get, refl, ◌∙◌, ap, subst, arith, cond, eqb}
 use Rattle.std.proofs.lemmas.Option.{slice_get-map, slice_get_within}
 use Rattle.std.proofs.lemmas.List.{length-map, map-append}
-use Rattle.dp_tree.specs.History.{Seat, Event, spent, account, total}
+use Rattle.dp_tree.specs.History.{Seat, Event, spent, total}
 use Rattle.dp_tree.specs.Table.{Row, TreeValue, numbers, place_of, row_of, depth_of_row, charged_row, charged_rows, new_row, asked, opened}
 use Rattle.dp_tree.specs.Standing.{Stands}
 use Rattle.dp_tree.proofs.Rows.{row_append_left, place-append}

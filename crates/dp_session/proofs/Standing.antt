@@ -1,12 +1,12 @@
 -- Verdicts by a table are those of the history at which it stands, and settled queries stand at one line more.
-use Rattle.std.proofs.Common.{◌≡◌, ℕ, ◌+◌, ◌≤◌, ◌<◌, Bool, Option, Some, None, Result, Ok, Err, List, [], ◌∷◌, map, length, option_map, refl, sym, ◌∙◌, ap, subst, arith}
+use Rattle.std.proofs.Common.{◌≡◌, ℕ, ◌+◌, ◌≤◌, Bool, Option, Some, None, Result, Ok, Err, List, [], ◌∷◌, length, option_map, refl, sym, ◌∙◌, ap, subst, arith}
 use Rattle.std.proofs.Math.Path.{fun_ext}
 use Rattle.dp_count.specs.Results.{on_ok}
 use Rattle.dp_num.specs.Limits.{Fraction}
 use Rattle.dp_budget.specs.declared.budget.Rule.{Rule}
-use Rattle.dp_tree.specs.History.{Seat, Event, Ask, Open, Node, number_of, newest, node_at, find_fault, over_at, seat_fault}
+use Rattle.dp_tree.specs.History.{Seat, Event, Node, number_of, newest, node_at, find_fault, over_at, seat_fault}
 use Rattle.dp_tree.specs.Table.{Row, TreeValue, row_of, fault_in, over_in, seat_fault_in, root_rows}
-use Rattle.dp_tree.specs.Standing.{Stands, node_of_row}
+use Rattle.dp_tree.specs.Standing.{Stands}
 use Rattle.dp_tree.proofs.Walks.{row-node, node-row, find-is, over-is, seat-is}
 use Rattle.dp_tree.proofs.Standing.{root-stands, stands-still}
 use Rattle.dp_pipeline.specs.declared.content.Content.{Content}
@@ -19,7 +19,7 @@ use Rattle.dp_session.specs.declared.faults.JudgeFault.{JudgeFault}
 use Rattle.dp_session.specs.declared.faults.JudgeFault.TheVariants as fault
 use Rattle.dp_session.specs.declared.refusal.Refusal.{Refusal}
 use Rattle.dp_session.specs.declared.work.Work as made
-use Rattle.dp_session.specs.Verdicts.{Grant, Nodes, judge, judged, events, by_history, by_table, place_of, place_of_row, root_seat, with_verdict, granted, verdict, past_events}
+use Rattle.dp_session.specs.Verdicts.{Grant, Nodes, judge, events, by_history, by_table, place_of, place_of_row, root_seat, with_verdict, granted, verdict, past_events}
 use Rattle.dp_session.specs.QueryLines.{Work, work_of}
 use Rattle.dp_session.specs.Works.{meaning_of}
 use Rattle.dp_session.proofs.Grants.{asked, opened}
@@ -33,6 +33,7 @@ place-is root past t i s = go (row_of t i) refl
     no-node : (o : Option Node) → node_at root past i ≡ o → row_of t i ≡ None → o ≡ None
     no-node None e none = refl
     no-node (Some node) e none = absurd (let row = node-row root past t i node s e in let k = row.1 in cc)
+
     go : (o : Option Row) → row_of t i ≡ o → option_map place_of_row o ≡ option_map (λ (node : Node). place_of node.seat) (node_at root past i)
     go None h = rw (no-node (node_at root past i) refl h) refl
     go (Some row) h = rw (row-node root past t i row s h) refl

@@ -1,5 +1,5 @@
 -- An account: the verdicts of queries, without data.
-use Rattle.std.specs.Prelude.{◌≡◌, ℕ, Bool, false, List, ◌∷◌, Option, Result, Ok, Err}
+use Rattle.std.specs.Prelude.{◌≡◌, ℕ, Bool, false, List, Option, Result, Ok, Err}
 use Rattle.dp_io.specs.Sink.{appended, AddsFront}
 use Rattle.dp_pipeline.specs.declared.content.Content.{Content}
 use Rattle.dp_session.specs.declared.faults.AccountFault.{AccountFault}

@@ -68,6 +68,7 @@ impl Account {
         ensures stands { (pipeline : Content) (past : List (List ℕ)) → IsAccountAt self.old pipeline past
             → OnOk result (IsAccountAt self.new pipeline (line.now ∷ past)) }
         ensures counted { OnOk result (self.new.queries.answered ≡ self.old.queries.answered + 1) }
+        ensures at_most { self.new.queries.answered ≤ self.old.queries.answered + 1 }
         ensures ended { (result ≡ Err AccountFault.Ended) ↔ (self.old.ended ≡ true) }
         ensures ends { OnErr result (self.new.ended ≡ true) }
         ensures nothing { result ≢ Ok tt → result ≢ Err AccountFault.WriteFault → out.new ≡ out.old }

@@ -53,12 +53,14 @@ pub(crate) fn judge<L: Ledger>(
             spec.parts(),
             steps,
         ),
-        Ok(Query::Open {
-            node,
-            stages,
-            distance,
-            budget,
-        }) => open_child(alloc, tree, number, node, &stages, distance, budget, steps),
+        Ok(
+            Query::Open {
+                node,
+                stages,
+                distance,
+                budget,
+            },
+        ) => open_child(alloc, tree, number, node, &stages, distance, budget, steps),
         Err(QueryFault::Malformed) => Err(JudgeFault::Refused(Refusal::Malformed)),
         Err(QueryFault::NoMemory) => Err(JudgeFault::NoMemory),
     }
@@ -174,11 +176,7 @@ fn place_at<L: Ledger>(tree: &Tree, node: u64, steps: &mut Steps<L>) -> Result<P
     ensures at_most { steps.new ≤ steps.old + 17 }
 {
     match tree.find(node, steps) {
-        Ok(()) => Ok(Place::new(
-            tree.domain(node),
-            tree.metric(node),
-            tree.distance(node),
-        )),
+        Ok(()) => Ok(Place::new(tree.domain(node), tree.metric(node), tree.distance(node))),
         Err(fault) => Err(Refusal::from(fault)),
     }
 }

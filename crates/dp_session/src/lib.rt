@@ -17,3 +17,5 @@ pub use account::Account;
 pub use faults::{AccountFault, EndFault};
 pub use refusal::Refusal;
 
+#[cfg(test)]
+mod tests;

@@ -39,9 +39,7 @@ fn refusal_text(alloc: Global, refused: &Refusal) -> Result<String, NoMemory>
     Ok(match refused {
         Refusal::Malformed => format!(in alloc; "1 malformed")?,
         Refusal::NoNode => format!(in alloc; "2 no-node")?,
-        Refusal::Frozen { ancestor, later } => {
-            format!(in alloc; "3 frozen {ancestor} {later}")?
-        }
+        Refusal::Frozen { ancestor, later } => { format!(in alloc; "3 frozen {ancestor} {later}")? }
         Refusal::Construction(number) => format!(in alloc; "4 construction {number}")?,
         Refusal::Depth => format!(in alloc; "5 depth")?,
         Refusal::ChildDistance { mapped } => format!(in alloc; "6 child-distance {mapped}")?,

@@ -1,5 +1,5 @@
 use Rattle.std.proofs.Common.{subst, sym}
-use Rattle.dp_tree.specs.Table.{TreeValue, asked}
+use Rattle.dp_tree.specs.Table.{TreeValue}
 use Rattle.dp_tree.proofs.Standing.{next-asked}
 use Rattle.dp_session.specs.Settling.{IsReady}
 use Rattle.dp_session.proofs.Roots.{root-asked}

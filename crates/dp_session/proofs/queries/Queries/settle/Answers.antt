@@ -1,4 +1,4 @@
-use Rattle.std.proofs.Common.{◌+◌, Result, refl, ap, sym, ◌∙◌, subst}
+use Rattle.std.proofs.Common.{◌+◌, Result, ap, ◌∙◌, subst}
 use Rattle.dp_pipeline.specs.Accepted.{ratio_of}
 use Rattle.dp_pipeline.specs.Queries.{query_of}
 use Rattle.dp_session.specs.declared.refusal.Refusal.{Refusal}
