@@ -23,7 +23,8 @@ StableMapping = (m : Mapping) × IsStable m
 abbrev pub AreStable : List Mapping → Type 0
 AreStable line = (parts : List StableMapping) × (map (λ (t : StableMapping). t.0) parts ≡ line)
 
-stable-first : (first : Mapping) (r : Result (List Mapping) Refused) (line : List Mapping) → IsStable first → ((rest : List Mapping) → r ≡ Ok rest → AreStable rest) →
+stable-first : (first : Mapping) (r : Result (List Mapping) Refused) (line : List Mapping) → IsStable first →
+    ((rest : List Mapping) → r ≡ Ok rest → AreStable rest) →
     (r >>= (λ rest. Ok (first ∷ rest))) ≡ Ok line → AreStable line
 stable-first first (Ok rest) line one others is =
     let parts = others rest refl in
@@ -31,8 +32,10 @@ stable-first first (Ok rest) line one others is =
     ((first, one) ∷ parts.0, ap (λ (l : List Mapping). first ∷ l) parts.1 ∙ same)
 stable-first first (Err refusal) line one others is = absurd (cc)
 
-stable-after : (made : Result Mapping Refused) (ss : List Stage) (line : List Mapping) → ((first : Mapping) → made ≡ Ok first → IsStable first) →
-    ((first : Mapping) (rest : List Mapping) → IsStable first → stages_on ss first.output_domain first.output_metric ≡ Ok rest → AreStable rest) →
+stable-after : (made : Result Mapping Refused) (ss : List Stage) (line : List Mapping) →
+    ((first : Mapping) → made ≡ Ok first → IsStable first) →
+    ((first : Mapping) (rest : List Mapping) → IsStable first →
+    stages_on ss first.output_domain first.output_metric ≡ Ok rest → AreStable rest) →
     first_and made ss ≡ Ok line → AreStable line
 stable-after (Ok first) ss line one others is =
     let law = one first refl in
@@ -46,12 +49,14 @@ stages-stable (s ∷ ss) d m line fits is =
     (λ first rest law. stages-stable ss first.output_domain first.output_metric rest law.output_fits)
     (sym (stages-more s ss d m) ∙ is)
 
-composed-stable : (d : Domain) (m : Metric) (line : List Mapping) → Fits d → AreJoined d m line → AreStable line → IsStable (composed d m line)
+composed-stable : (d : Domain) (m : Metric) (line : List Mapping) → Fits d → AreJoined d m line → AreStable line →
+    IsStable (composed d m line)
 composed-stable d m line fits joined stable =
     subst (λ (l : List Mapping). IsStable (composed d m l)) stable.1
     (line_law (λ (t : StableMapping). t.0) (λ t. t.1) d m stable.0 fits (subst (AreJoined d m) (sym stable.1) joined))
 
-line-from : (d : Domain) (m : Metric) (r : Result (List Mapping) Refused) (made : Mapping) → ((line : List Mapping) → r ≡ Ok line → IsStable (composed d m line)) →
+line-from : (d : Domain) (m : Metric) (r : Result (List Mapping) Refused) (made : Mapping) →
+    ((line : List Mapping) → r ≡ Ok line → IsStable (composed d m line)) →
     on_ok (composed d m) r ≡ Ok made → IsStableOn d m made
 line-from d m (Ok line) made law is =
     let same : composed d m line ≡ made = cc in
@@ -60,4 +65,5 @@ line-from d m (Err refusal) made law is = absurd (cc)
 
 pub line-law : LineLaw
 line-law ss d m made fits is =
-    line-from d m (stages_on ss d m) made (λ line told. composed-stable d m line fits (stages-joined ss d m line told) (stages-stable ss d m line fits told)) is
+    line-from d m (stages_on ss d m) made
+    (λ line told. composed-stable d m line fits (stages-joined ss d m line told) (stages-stable ss d m line fits told)) is

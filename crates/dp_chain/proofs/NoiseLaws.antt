@@ -45,7 +45,8 @@ bound-holds bound limit told = grind (arith, nat_tests)
 
 -- the noises, with the powers that are made
 module _ (p q u : ℕ) (below : IsBelowOne p q) where
-  geometric-private : (both : Option (ℕ × ℕ)) (input : Domain) (lo hi : ℤ) → powers p q u ≡ both → Fits input → is_numeric input ≡ true → PrivateIfMade (geometric_with input p q u lo hi both)
+  geometric-private : (both : Option (ℕ × ℕ)) (input : Domain) (lo hi : ℤ) → powers p q u ≡ both → Fits input →
+      is_numeric input ≡ true → PrivateIfMade (geometric_with input p q u lo hi both)
   geometric-private None input lo hi made fits numeric = tt
   geometric-private (Some both) input lo hi made fits numeric =
       let power = powers-some p q u both.0 both.1 made in
@@ -53,17 +54,21 @@ module _ (p q u : ℕ) (below : IsBelowOne p q) where
       made-private (is_narrow_range lo hi) (geometric input p q u lo hi both.0 both.1)
       (λ good.
       let range = narrow-range lo hi good in
-      geometric_law input lo hi p q u both.0 both.1 fits numeric below power.1 power.2 range.ordered range.narrow order.1 (omega (arith, power.3)))
+      geometric_law input lo hi p q u both.0 both.1 fits numeric below power.1 power.2
+      range.ordered range.narrow order.1 (omega (arith, power.3)))
 
-  response-private : (both : Option (ℕ × ℕ)) (n : ℕ) → powers p q u ≡ both → Fits (domain.Cat n) → PrivateIfMade (response_with n p q u both)
+  response-private : (both : Option (ℕ × ℕ)) (n : ℕ) → powers p q u ≡ both → Fits (domain.Cat n) →
+      PrivateIfMade (response_with n p q u both)
   response-private None n made fits = tt
   response-private (Some both) n made fits =
       let power = powers-some p q u both.0 both.1 made in
       let order = powers-below_one p q u both.0 both.1 below.0 below.1 made in
       made-private (nat_le (draw_bound n both.0 both.1) (2 ^ 62)) (response n p q u both.0 both.1)
-      (λ good. response_law n p q u both.0 both.1 fits below order.0 order.1 power.1 power.2 (bound-holds (draw_bound n both.0 both.1) (2 ^ 62) good))
+      (λ good. response_law n p q u both.0 both.1 fits below order.0 order.1 power.1 power.2
+      (bound-holds (draw_bound n both.0 both.1) (2 ^ 62) good))
 
-  choice-private : (both : Option (ℕ × ℕ)) (len : ℕ) (least most floor top : ℤ) → powers p q u ≡ both → Fits (domain.IntVec len least most) → PrivateIfMade (choice_with len least most p q u floor top both)
+  choice-private : (both : Option (ℕ × ℕ)) (len : ℕ) (least most floor top : ℤ) → powers p q u ≡ both →
+      Fits (domain.IntVec len least most) → PrivateIfMade (choice_with len least most p q u floor top both)
   choice-private None len least most floor top made fits = tt
   choice-private (Some both) len least most floor top made fits =
       let power = powers-some p q u both.0 both.1 made in
@@ -73,7 +78,8 @@ module _ (p q u : ℕ) (below : IsBelowOne p q) where
       let told = is-choice len p q floor top both.0 both.1 below.1 good in
       choice_law len least most p q u floor top both.0 both.1 fits below order.0 order.1 power.1 power.2 told.0.ordered told.2)
 
-pub noise-private : (ratio : Fraction) (n : Noise) (d : Domain) (m : Metric) → Fits d → IsBelowOne ratio.p ratio.q → PrivateIfMade (noise_on ratio n d m)
+pub noise-private : (ratio : Fraction) (n : Noise) (d : Domain) (m : Metric) → Fits d → IsBelowOne ratio.p ratio.q →
+    PrivateIfMade (noise_on ratio n d m)
 unfolding noise_on
 noise-private ratio (noise.Geometric u lo hi) (domain.Int least most) metrics.Absolute fits below =
     geometric-private ratio.p ratio.q u below (powers ratio.p ratio.q u) (domain.Int least most) lo hi refl fits refl

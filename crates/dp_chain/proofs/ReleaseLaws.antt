@@ -27,7 +27,8 @@ pub record IsPartOn (ratio : Fraction) (domain : Domain) (metric : Metric) (m : 
   pub private : IsPrivate m
   pub like : IsLike ratio domain metric m
 
-measured-part : (ratio : Fraction) (d : Domain) (m : Metric) (line : Mapping) (last : Mechanism) → IsStableOn d m line → IsPrivateOn ratio line.output_domain line.output_metric last →
+measured-part : (ratio : Fraction) (d : Domain) (m : Metric) (line : Mapping) (last : Mechanism) → IsStableOn d m line →
+    IsPrivateOn ratio line.output_domain line.output_metric last →
     IsLike ratio line.output_domain line.output_metric last → IsPartOn ratio d m (measured line last)
 measured-part ratio d m line last one other like = record {
   private = measured_law line last one.stable other.private (sym other.input_domain) (sym other.input_metric);
@@ -40,8 +41,10 @@ measured-part ratio d m line last one other like = record {
   };
 }
 
-noise-part : (ratio : Fraction) (d : Domain) (m : Metric) (line : Mapping) (r : Result Mechanism Refused) (made : Mechanism) → IsStableOn d m line →
-    ((last : Mechanism) → r ≡ Ok last → IsPrivateOn ratio line.output_domain line.output_metric last × IsLike ratio line.output_domain line.output_metric last) →
+noise-part : (ratio : Fraction) (d : Domain) (m : Metric) (line : Mapping) (r : Result Mechanism Refused) (made : Mechanism) →
+    IsStableOn d m line →
+    ((last : Mechanism) → r ≡ Ok last →
+    IsPrivateOn ratio line.output_domain line.output_metric last × IsLike ratio line.output_domain line.output_metric last) →
     (r >>= (λ last. Ok (measured line last))) ≡ Ok made → IsPartOn ratio d m made
 noise-part ratio d m line (Ok last) made one told is =
     let same : measured line last ≡ made = cc in
@@ -49,7 +52,8 @@ noise-part ratio d m line (Ok last) made one told is =
     subst (IsPartOn ratio d m) same (measured-part ratio d m line last one noise.0 noise.1)
 noise-part ratio d m line (Err refusal) made one told is = absurd (cc)
 
-line-part : (ratio : Fraction) (noise : Noise) (d : Domain) (m : Metric) (r : Result Mapping Refused) (made : Mechanism) → is_ratio ratio.p ratio.q ≡ true →
+line-part : (ratio : Fraction) (noise : Noise) (d : Domain) (m : Metric) (r : Result Mapping Refused) (made : Mechanism) →
+    is_ratio ratio.p ratio.q ≡ true →
     ((line : Mapping) → r ≡ Ok line → IsStableOn d m line) → noise_after ratio noise r ≡ Ok made → IsPartOn ratio d m made
 line-part ratio noise d m (Ok line) made below told is =
     let one = told line refl in
@@ -62,9 +66,11 @@ line-part ratio noise d m (Ok line) made below told is =
     is
 line-part ratio noise d m (Err refusal) made below told is = absurd (cc)
 
-pub part-made-well : (ratio : Fraction) (part : Part) (d : Domain) (m : Metric) (made : Mechanism) → Fits d → is_ratio ratio.p ratio.q ≡ true → part_on ratio part d m ≡ Ok made → IsPartOn ratio d m made
+pub part-made-well : (ratio : Fraction) (part : Part) (d : Domain) (m : Metric) (made : Mechanism) → Fits d →
+    is_ratio ratio.p ratio.q ≡ true → part_on ratio part d m ≡ Ok made → IsPartOn ratio d m made
 part-made-well ratio part d m made fits below is =
-    line-part ratio part.noise d m (line_on part.stages d m) made below (λ line told. line-law part.stages d m line fits told) (sym (part-more ratio part d m) ∙ is)
+    line-part ratio part.noise d m (line_on part.stages d m) made below
+    (λ line told. line-law part.stages d m line fits told) (sym (part-more ratio part d m) ∙ is)
 
 pub part-law : PartLaw
 part-law ratio part d m made fits below is =
@@ -88,8 +94,9 @@ pub record ArePartsOn (ratio : Fraction) (domain : Domain) (metric : Metric) (n 
   pub many : length parts ≡ n
   pub alike : AreAlike ratio domain metric ms
 
-parts-first : (ratio : Fraction) (d : Domain) (m : Metric) (n : ℕ) (first : Result Mechanism Refused) (rest : Result (List Mechanism) Refused) (ms : List Mechanism) →
-    ((made : Mechanism) → first ≡ Ok made → IsPartOn ratio d m made) → ((others : List Mechanism) → rest ≡ Ok others → ArePartsOn ratio d m n others) →
+parts-first : (ratio : Fraction) (d : Domain) (m : Metric) (n : ℕ) (first : Result Mechanism Refused)
+    (rest : Result (List Mechanism) Refused) (ms : List Mechanism) → ((made : Mechanism) → first ≡ Ok made → IsPartOn ratio d m made) →
+    ((others : List Mechanism) → rest ≡ Ok others → ArePartsOn ratio d m n others) →
     (first >>= (λ made. rest >>= (λ others. Ok (made ∷ others)))) ≡ Ok ms → ArePartsOn ratio d m (suc n) ms
 parts-first ratio d m n (Ok made) (Ok others) ms one all is =
     let same : made ∷ others ≡ ms = cc in
@@ -104,7 +111,8 @@ parts-first ratio d m n (Ok made) (Ok others) ms one all is =
 parts-first ratio d m n (Ok made) (Err refusal) ms one all is = absurd (cc)
 parts-first ratio d m n (Err refusal) rest ms one all is = absurd (cc)
 
-pub parts-made-well : (ratio : Fraction) (parts : List Part) (d : Domain) (m : Metric) (ms : List Mechanism) → Fits d → is_ratio ratio.p ratio.q ≡ true → parts_on ratio parts d m ≡ Ok ms → ArePartsOn ratio d m (length parts) ms
+pub parts-made-well : (ratio : Fraction) (parts : List Part) (d : Domain) (m : Metric) (ms : List Mechanism) → Fits d →
+    is_ratio ratio.p ratio.q ≡ true → parts_on ratio parts d m ≡ Ok ms → ArePartsOn ratio d m (length parts) ms
 parts-made-well ratio [] d m ms fits below is =
     let same : [] ≡ ms = cc (parts-none ratio d m) in
     subst (ArePartsOn ratio d m 0) same (record { parts = []; same = refl; many = refl; alike = alike-nil ratio d m })
@@ -113,7 +121,8 @@ parts-made-well ratio (part ∷ parts) d m ms fits below is =
     (λ made. part-made-well ratio part d m made fits below) (λ others. parts-made-well ratio parts d m others fits below)
     (sym (parts-more ratio part parts d m) ∙ is)
 
-joined-private : (ratio : Fraction) (d : Domain) (m : Metric) (n : ℕ) (ms : List Mechanism) → Fits d → IsBelowOne ratio.p ratio.q → 1 ≤ n → n ≤ 16 → ArePartsOn ratio d m n ms → IsPrivate (joined ratio d m ms)
+joined-private : (ratio : Fraction) (d : Domain) (m : Metric) (n : ℕ) (ms : List Mechanism) → Fits d →
+    IsBelowOne ratio.p ratio.q → 1 ≤ n → n ≤ 16 → ArePartsOn ratio d m n ms → IsPrivate (joined ratio d m ms)
 joined-private ratio d m n ms fits below some few all =
     let mechanism : PrivateMechanism → Mechanism = λ t. t.0 in
     let many = all.many in
@@ -128,14 +137,21 @@ release-from : (ratio : Fraction) (d : Domain) (m : Metric) (r : Result (List Me
 release-from ratio d m (Ok ms) made law is =
     let same : joined ratio d m ms ≡ made = cc in
     let told = law ms refl in
-    subst (IsPrivateOn ratio d m) same (record { private = told.0; input_domain = refl; input_metric = refl; one_ratio = refl; zero_loss = told.1 })
+    subst (IsPrivateOn ratio d m) same (record {
+      private = told.0;
+      input_domain = refl;
+      input_metric = refl;
+      one_ratio = refl;
+      zero_loss = told.1;
+    })
 release-from ratio d m (Err refusal) made law is = absurd (cc)
 
 pub release-law : ReleaseLaw
 release-law ratio parts d m made fits below some few is =
     release-from ratio d m (parts_on ratio parts d m) made
     (λ ms told. (
-      joined-private ratio d m (length parts) ms fits (below-one ratio.p ratio.q below) some few (parts-made-well ratio parts d m ms fits below told),
+      joined-private ratio d m (length parts) ms fits (below-one ratio.p ratio.q below) some few
+          (parts-made-well ratio parts d m ms fits below told),
       parts-zero ratio parts d m ms told,
     ))
     is

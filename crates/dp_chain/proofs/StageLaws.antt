@@ -82,34 +82,42 @@ count-stable false d m fits = tt
 
 pub stage-stable : (s : Stage) (d : Domain) (m : Metric) → Fits d → StableIfMade (stage_on s d m)
 unfolding stage_on
-stage-stable (stage.Filter column text) (domain.Rows columns) m fits = tested-stable (compares_rows columns m) _ _ (λ right good. filter_law column text columns m fits)
+stage-stable (stage.Filter column text) (domain.Rows columns) m fits =
+    tested-stable (compares_rows columns m) _ _ (λ right good. filter_law column text columns m fits)
 stage-stable (stage.Filter column text) d m fits = tt
-stage-stable (stage.Select column) (domain.Rows columns) m fits = tested-stable (is_symmetric m) _ _ (λ right good. select_law column columns fits)
+stage-stable (stage.Select column) (domain.Rows columns) m fits =
+    tested-stable (is_symmetric m) _ _ (λ right good. select_law column columns fits)
 stage-stable (stage.Select column) d m fits = tt
 stage-stable stage.Cast domain.Texts m fits = tested-stable (is_symmetric m) _ _ (λ right good. cast_law)
 stage-stable stage.Cast d m fits = tt
 stage-stable (stage.Categories texts) domain.Texts m fits =
-    tested-stable (is_symmetric m) _ _ (λ right good. categories_law texts (one-more (length texts) (first-holds (few_and_one (length texts)) (are_different texts) good), tt))
+    tested-stable (is_symmetric m) _ _
+    (λ right good. categories_law texts (one-more (length texts) (first-holds (few_and_one (length texts)) (are_different texts) good), tt))
 stage-stable (stage.Categories texts) d m fits = tt
-stage-stable (stage.Impute number) (domain.OptInts lo hi) m fits = tested-stable (is_symmetric m) _ _ (λ right good. impute_law number lo hi fits (between-holds lo hi number good))
+stage-stable (stage.Impute number) (domain.OptInts lo hi) m fits =
+    tested-stable (is_symmetric m) _ _ (λ right good. impute_law number lo hi fits (between-holds lo hi number good))
 stage-stable (stage.Impute number) d m fits = tt
 stage-stable stage.DropNone (domain.OptInts lo hi) m fits = tested-stable (is_symmetric m) _ _ (λ right good. drop_none_law lo hi fits)
 stage-stable stage.DropNone d m fits = tt
 stage-stable (stage.Clamp lo hi) (domain.Ints from_lo from_hi size) m fits =
-    tested-stable (is_list_metric size m) _ _ (λ right good. clamp_law lo hi from_lo from_hi size fits (range-holds item_limit lo hi good, fits.1))
+    tested-stable (is_list_metric size m) _ _
+    (λ right good. clamp_law lo hi from_lo from_hi size fits (range-holds item_limit lo hi good, fits.1))
 stage-stable (stage.Clamp lo hi) d m fits = tt
 stage-stable (stage.Bins edges) (domain.Ints lo hi size) m fits =
     tested-stable (is_list_metric size m) _ _ (λ right good. bins_law edges lo hi size fits (edges-few (pos item_limit) edges good, fits.1))
 stage-stable (stage.Bins edges) d m fits = tt
-stage-stable (stage.Resize size fill) (domain.Ints lo hi None) m fits = tested-stable (is_symmetric m) _ _ (λ right good. resize_law lo hi size fill fits good)
+stage-stable (stage.Resize size fill) (domain.Ints lo hi None) m fits =
+    tested-stable (is_symmetric m) _ _ (λ right good. resize_law lo hi size fill fits good)
 stage-stable (stage.Resize size fill) (domain.Ints lo hi (Some given)) m fits = tt
 stage-stable (stage.Resize size fill) d m fits = tt
 stage-stable stage.Count d m fits = count-stable (has_lists d) d m fits
 stage-stable stage.Sum (domain.Ints lo hi size) m fits = tested-stable (is_list_metric size m) _ _ (λ right good. sum_law lo hi size fits)
 stage-stable stage.Sum d m fits = tt
-stage-stable stage.Histogram (domain.Cats n size) m fits = tested-stable (is_list_metric size m) _ _ (λ right good. histogram_law n size fits)
+stage-stable stage.Histogram (domain.Cats n size) m fits =
+    tested-stable (is_list_metric size m) _ _ (λ right good. histogram_law n size fits)
 stage-stable stage.Histogram d m fits = tt
-stage-stable (stage.Quantise step) (domain.Int lo hi) m fits = tested-stable (is_absolute m) _ _ (λ right good. quantise_law lo hi step fits good)
+stage-stable (stage.Quantise step) (domain.Int lo hi) m fits =
+    tested-stable (is_absolute m) _ _ (λ right good. quantise_law lo hi step fits good)
 stage-stable (stage.Quantise step) d m fits = tt
 stage-stable (stage.AtLeast edges) (domain.Int lo hi) m fits =
     tested-stable (is_absolute m) _ _ (λ right good. at_least_law edges lo hi fits (edges-few (pos number_limit) edges good))
