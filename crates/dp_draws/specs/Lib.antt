@@ -1,3 +1,5 @@
+pub mod ChaChaDraws
+pub mod ChaChaProof
 pub mod Numbers
 pub mod SourceLaws
 pub mod Sources

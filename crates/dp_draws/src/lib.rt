@@ -1,13 +1,23 @@
 //! Sources of draws: each draw is a whole number below a bound that the caller gives. A source that replays a list,
-//! one that always fails, and the reader of a file of draws.
+//! one that always fails, one that gives 0 always, one over ChaCha20, one that fails from a call on, and the reader of
+//! a file of draws.
 #![tactic(auto)]
 
+mod chacha_draws;
+mod fail_at;
 mod reading;
 mod refusing;
 mod replaying;
 mod source;
+mod zeros;
 
+pub use chacha_draws::ChaChaDraws;
+pub use fail_at::FailAt;
 pub use reading::read_draws;
 pub use refusing::NoDraws;
 pub use replaying::Replay;
 pub use source::Draws;
+pub use zeros::Zeros;
+
+#[cfg(test)]
+mod tests;
