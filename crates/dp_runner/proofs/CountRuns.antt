@@ -9,7 +9,7 @@ use Rattle.dp_draws.specs.Numbers.{drawn_numbers}
 use Rattle.dp_runner.specs.declared.form.Form.TheVariants as form
 use Rattle.dp_runner.specs.declared.stop.Stop.{Stop}
 use Rattle.dp_runner.specs.declared.stop.Stop.TheVariants as stop
-use Rattle.dp_runner.specs.RawRecords.{raw}
+use Rattle.dp_records.specs.RawRecords.{raw}
 use Rattle.dp_count.specs.Results.{◌>>=◌}
 use Rattle.dp_runner.specs.Outcome.{Source, or_stop, written_last}
 use Rattle.dp_runner.specs.Texts.{file_text, drawn}

@@ -6,7 +6,7 @@ use Rattle.std.proofs.lemmas.Bool.{le-leb}
 use Rattle.dp_io.specs.Shelf.{Files}
 use Rattle.dp_runner.specs.declared.stop.Stop.{Stop}
 use Rattle.dp_runner.specs.declared.stop.Stop.TheVariants as stop
-use Rattle.dp_runner.specs.RawRecords.{raw, raw_up_to}
+use Rattle.dp_records.specs.RawRecords.{raw, raw_up_to}
 use Rattle.dp_count.specs.Results.{◌>>=◌}
 use Rattle.dp_runner.specs.Outcome.{or_stop}
 use Rattle.dp_runner.specs.Texts.{text_within, file_text, drawn}

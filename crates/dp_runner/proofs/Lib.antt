@@ -4,7 +4,6 @@ pub mod CountSteps
 pub mod FormRuns
 pub mod Lines
 pub mod PipelineSteps
-pub mod RecordCounts
 pub mod Refusals
 pub mod RunEnds
 pub mod Steps

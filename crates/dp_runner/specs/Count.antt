@@ -11,7 +11,7 @@ use Rattle.dp_runner.specs.declared.stop.Stop.{Stop}
 use Rattle.dp_runner.specs.declared.stop.Stop.TheVariants as stop
 use Rattle.dp_count.specs.Results.{◌>>=◌}
 use Rattle.dp_runner.specs.Outcome.{Command, or_stop, written_last}
-use Rattle.dp_runner.specs.RawRecords.{raw}
+use Rattle.dp_records.specs.RawRecords.{raw}
 use Rattle.dp_runner.specs.Texts.{file_text, drawn}
 use Rattle.dp_runner.specs.Words.{is_file_name}
 

@@ -13,7 +13,7 @@ use Rattle.dp_runner.specs.Check.{CheckForm}
 use Rattle.dp_runner.specs.Count.{CountForm, cell_draws, cell_answer, answer_line}
 use Rattle.dp_runner.specs.Forms.{form_of, outcome}
 use Rattle.dp_runner.specs.Pipelines.{IsNumber}
-use Rattle.dp_runner.specs.RawRecords.{raw}
+use Rattle.dp_records.specs.RawRecords.{raw}
 
 -- what a run did that nothing stopped
 pub record IsDone (outcome : Outcome) (bytes last : List ℕ) : Type 0 where

@@ -5,7 +5,6 @@ pub mod Forms
 pub mod Laws
 pub mod Outcome
 pub mod Pipelines
-pub mod RawRecords
 pub mod RunClauses
 pub mod Stops
 pub mod Texts

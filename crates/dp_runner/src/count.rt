@@ -7,13 +7,13 @@ ghost use Rattle.dp_runner.specs.Outcome.{Source, written_last};
 ghost use Rattle.dp_runner.specs.Count.{count_form, count_form_of, range_of, counted, cell_draws, cell_answer, count_answer, count_written, ratio_low, ratio_high};
 
 use crate::stop::Stop;
-use crate::tally::{MOST_RECORDS, count_records};
 use crate::texts::{MOST_DATA, read_file, read_replay};
 use dp_count::{Failed, signed_decimal};
 use dp_domain::is_narrow;
 use dp_draws::{Draws, Replay};
 use dp_geometric::Cell;
 use dp_io::{Shelf, Sink, write_all};
+use dp_records::{MOST_RECORDS, count_records};
 use std::alloc::Global;
 use std::marker::Model;
 

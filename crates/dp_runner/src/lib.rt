@@ -8,7 +8,6 @@ pub mod laws;
 mod pipelines;
 mod run;
 mod stop;
-mod tally;
 mod texts;
 
 pub use run::{end_without_memory, run_words};

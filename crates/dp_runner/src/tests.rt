@@ -1,7 +1,6 @@
 mod check;
 
 use crate::laws::count_law;
-use crate::tally::count_records;
 use crate::{end_without_memory, run_words};
 use dp_draws::NoDraws;
 use dp_io::{MemShelf, MemSink};
@@ -291,14 +290,6 @@ fn words_of_no_form(rt: HostRuntime) -> Result<(), Fail> {
         2,
         "dp: usage\n",
     )
-}
-
-#[test]
-fn counting_stops_at_the_limit(rt: HostRuntime) -> Result<(), Fail> {
-    assert_eq!(rt; count_records(rt.alloc(), b"a\nb\nc\n", 2)?, 2);
-    assert_eq!(rt; count_records(rt.alloc(), b"a\nb\nc\n", 3)?, 3);
-    assert_eq!(rt; count_records(rt.alloc(), b"a\nb\nc\n", 4)?, 3);
-    Ok(())
 }
 
 /// The words of a count of the file `data`.

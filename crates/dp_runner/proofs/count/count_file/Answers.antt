@@ -1,5 +1,5 @@
 use Rattle.std.proofs.Common.{◌∙◌, ◌^◌, ap, length}
-use Rattle.dp_runner.specs.RawRecords.{raw_up_to}
+use Rattle.dp_records.specs.RawRecords.{raw_up_to}
 use Rattle.dp_runner.proofs.CountSteps.{counted-ok}
 use Rattle.dp_runner.proofs.count.count_file.Goals as goal
 
