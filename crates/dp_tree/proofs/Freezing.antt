@@ -14,7 +14,8 @@ under-known root [] g i a h = absurd cc
 under-known root (Ask q n c ∷ past) g i a h = let ih = under-known root past g i a.0 h in (omega (arith, ih.0, a.1), ih.1)
 under-known root (Open q n seat m ∷ past) g i a h = go (under-known root past g n a.0) (under-known root past g i a.0) (eqb_tells q i)
   where
-    go : (is_under past g n ≡ true → (g ≤ newest past) × (g < n)) → (is_under past g i ≡ true → (g ≤ newest past) × (g < i)) → ((eqb q i ≡ true) × (q ≡ i)) ⊎ ((eqb q i ≡ false) × (q ≢ i)) → (g ≤ q) × (g < i)
+    go : (is_under past g n ≡ true → (g ≤ newest past) × (g < n)) → (is_under past g i ≡ true → (g ≤ newest past) × (g < i)) →
+        ((eqb q i ≡ true) × (q ≡ i)) ⊎ ((eqb q i ≡ false) × (q ≢ i)) → (g ≤ q) × (g < i)
     go up ih (inl k) =
         let there = none-or-some (node_at root past n) a.2 in
         let known = node-le root past n there.0 a.0 there.1 in
@@ -37,25 +38,32 @@ either false c h = h
 abbrev pub AreComparable : List Event → ℕ → ℕ → Type 0
 AreComparable past i g = (is_below past i g ≡ true) ⊎ (is_below past g i ≡ true)
 
-comparable-more : (past : List Event) (e : Event) (i g : ℕ) → newest past < number_of e → i ≤ newest past → g ≤ newest past → AreComparable past i g → AreComparable (e ∷ past) i g
+comparable-more : (past : List Event) (e : Event) (i g : ℕ) → newest past < number_of e → i ≤ newest past → g ≤ newest past →
+    AreComparable past i g → AreComparable (e ∷ past) i g
 comparable-more past e i g later known there (inl h) = inl (below-stays past e i g later there ∙ h)
 comparable-more past e i g later known there (inr h) = inr (below-stays past e g i later known ∙ h)
 
 -- a node on the path to one that is there is there
-below-known : (root : Seat) (past : List Event) (i t : ℕ) → Accepted root past → t ≤ newest past → is_below past i t ≡ true → i ≤ newest past
+below-known : (root : Seat) (past : List Event) (i t : ℕ) → Accepted root past → t ≤ newest past → is_below past i t ≡ true →
+    i ≤ newest past
 below-known root past i t a l h = elim (eqb_tells t i) [
   | inl e ↦ omega (arith, e.1, l)
   | inr e ↦ (under-known root past i t a (rw e.0 at h)).0
 ]
 
-comparable-open : (root : Seat) (past : List Event) (q n m : ℕ) (seat : Seat) (t i g : ℕ) → Accepted root (Open q n seat m ∷ past) → ((s : ℕ) → is_below past i s ≡ true → is_below past g s ≡ true → AreComparable past i g) → is_under (Open q n seat m ∷ past) i t ≡ true → is_under (Open q n seat m ∷ past) g t ≡ true → AreComparable (Open q n seat m ∷ past) i g
+comparable-open : (root : Seat) (past : List Event) (q n m : ℕ) (seat : Seat) (t i g : ℕ) →
+    Accepted root (Open q n seat m ∷ past) →
+    ((s : ℕ) → is_below past i s ≡ true → is_below past g s ≡ true → AreComparable past i g) →
+    is_under (Open q n seat m ∷ past) i t ≡ true → is_under (Open q n seat m ∷ past) g t ≡ true →
+    AreComparable (Open q n seat m ∷ past) i g
 comparable-open root past q n m seat t i g a ih h k = elim (eqb_tells q t) [
   | inl e ↦
       let there = none-or-some (node_at root past n) a.2 in
       let known = node-le root past n there.0 a.0 there.1 in
       let first : is_below past i n ≡ true = rw e.0 at h in
       let second : is_below past g n ≡ true = rw e.0 at k in
-      comparable-more past (Open q n seat m) i g a.1 (below-known root past i n a.0 known first) (below-known root past g n a.0 known second) (ih n first second)
+      comparable-more past (Open q n seat m) i g a.1
+      (below-known root past i n a.0 known first) (below-known root past g n a.0 known second) (ih n first second)
   | inr e ↦
       let first : is_under past i t ≡ true = rw e.0 at h in
       let second : is_under past g t ≡ true = rw e.0 at k in
@@ -64,7 +72,8 @@ comparable-open root past q n m seat t i g a ih h k = elim (eqb_tells q t) [
 ]
 
 -- of two nodes on the path to a third, one stands below the other
-pub comparable : (root : Seat) (past : List Event) (t i g : ℕ) → Accepted root past → is_below past i t ≡ true → is_below past g t ≡ true → AreComparable past i g
+pub comparable : (root : Seat) (past : List Event) (t i g : ℕ) → Accepted root past → is_below past i t ≡ true →
+    is_below past g t ≡ true → AreComparable past i g
 comparable root [] t i g a h k =
     let first : t ≡ i = grind (arith, nat_tests, h) in
     let second : t ≡ g = grind (arith, nat_tests, k) in
@@ -73,7 +82,8 @@ comparable root [] t i g a h k =
 comparable root (Ask q n c ∷ past) t i g a h k = comparable root past t i g a.0 h k
 comparable root (Open q n seat m ∷ past) t i g a h k = go (λ s. comparable root past s i g a.0)
   where
-    go : ((s : ℕ) → is_below past i s ≡ true → is_below past g s ≡ true → AreComparable past i g) → AreComparable (Open q n seat m ∷ past) i g
+    go : ((s : ℕ) → is_below past i s ≡ true → is_below past g s ≡ true → AreComparable past i g) →
+        AreComparable (Open q n seat m ∷ past) i g
     go ih = elim (eqb_tells t i) [
       | inl e ↦ inr (subst (λ x. is_below (Open q n seat m ∷ past) g x ≡ true) e.1 k)
       | inr e ↦ elim (eqb_tells t g) [
@@ -88,7 +98,8 @@ second-part true a o h = absurd cc
 second-part false a o h = (refl, h)
 
 -- no query after number i was addressed to any of the nodes
-later-none : (last : ℕ → ℕ) (i : ℕ) (gs : List ℕ) (g : ℕ) → nearest_later (λ n. n) last i gs ≡ None → list_any (λ above. eqb above g) gs ≡ true → last g ≤ i
+later-none : (last : ℕ → ℕ) (i : ℕ) (gs : List ℕ) (g : ℕ) → nearest_later (λ n. n) last i gs ≡ None →
+    list_any (λ above. eqb above g) gs ≡ true → last g ≤ i
 later-none last i [] g h k = absurd cc
 later-none last i (x ∷ gs) g h k =
     let parts = second-part (ltb i (last x)) _ (nearest_later (λ n. n) last i gs) h in
@@ -98,7 +109,8 @@ later-none last i (x ∷ gs) g h k =
     ]
 
 -- nor was one in a shorter history
-later-fewer : (late last : ℕ → ℕ) (i : ℕ) (gs : List ℕ) → ((g : ℕ) → last g ≤ late g) → nearest_later (λ n. n) late i gs ≡ None → nearest_later (λ n. n) last i gs ≡ None
+later-fewer : (late last : ℕ → ℕ) (i : ℕ) (gs : List ℕ) → ((g : ℕ) → last g ≤ late g) → nearest_later (λ n. n) late i gs ≡ None →
+    nearest_later (λ n. n) last i gs ≡ None
 later-fewer late last i [] less h = refl
 later-fewer late last i (x ∷ gs) less h =
     let parts = second-part (ltb i (late x)) _ (nearest_later (λ n. n) late i gs) h in
@@ -113,32 +125,41 @@ last-fewer past e g = elim (eqb_tells (node_of e) g) [
 ]
 
 -- a node that may be asked is there, and no later query was addressed to a node above it
-pub free-node : (root : Seat) (past : List Event) (i : ℕ) → find_fault false root past i ≡ None → (node : Node) × (node_at root past i ≡ Some node) × (frozen past i ≡ None)
+pub free-node : (root : Seat) (past : List Event) (i : ℕ) → find_fault false root past i ≡ None →
+    (node : Node) × (node_at root past i ≡ Some node) × (frozen past i ≡ None)
 free-node root past i h = go (node_at root past i) refl h
   where
-    go : (o : Option Node) → node_at root past i ≡ o → fault_of_node false past i o ≡ None → (node : Node) × (node_at root past i ≡ Some node) × (frozen past i ≡ None)
+    go : (o : Option Node) → node_at root past i ≡ o → fault_of_node false past i o ≡ None →
+        (node : Node) × (node_at root past i ≡ Some node) × (frozen past i ≡ None)
     go None e h = absurd cc
     go (Some node) e h = (node, e, h)
 
 -- a node that a query did not open was as it is
-not-opened : (root : Seat) (past : List Event) (e : Event) (i : ℕ) → opens e i ≡ false → (node_at root (e ∷ past) i ≡ node_at root past i) × (ancestors (e ∷ past) i ≡ ancestors past i)
+not-opened : (root : Seat) (past : List Event) (e : Event) (i : ℕ) → opens e i ≡ false →
+    (node_at root (e ∷ past) i ≡ node_at root past i) × (ancestors (e ∷ past) i ≡ ancestors past i)
 not-opened root past (Ask q n c) i h = (refl, refl)
 not-opened root past (Open q n seat m) i h = (rw h refl, rw h refl)
 
 -- a node that is not frozen after a query was not frozen before, unless the query opened it, and does not stand below its node
-free-before : (root : Seat) (past : List Event) (e : Event) (i : ℕ) → Accepted root (e ∷ past) → opens e i ≡ false → find_fault false root (e ∷ past) i ≡ None → (find_fault false root past i ≡ None) × (is_under past (node_of e) i ≡ false)
+free-before : (root : Seat) (past : List Event) (e : Event) (i : ℕ) → Accepted root (e ∷ past) → opens e i ≡ false →
+    find_fault false root (e ∷ past) i ≡ None → (find_fault false root past i ≡ None) × (is_under past (node_of e) i ≡ false)
 free-before root past e i a other h =
     let free = free-node root (e ∷ past) i h in
     let was = not-opened root past e i other in
     let there : node_at root past i ≡ Some free.0 = sym was.0 ∙ free.1 in
-    let above : nearest_later (λ n. n) (last_at (e ∷ past)) i (ancestors past i) ≡ None = ap (nearest_later (λ n. n) (last_at (e ∷ past)) i) (sym was.1) ∙ free.2 in
+    let above : nearest_later (λ n. n) (last_at (e ∷ past)) i (ancestors past i) ≡ None
+    = ap (nearest_later (λ n. n) (last_at (e ∷ past)) i) (sym was.1) ∙ free.2 in
     let known = node-le root past i free.0 a.0 there in
-    (free-then root past i free.0 there (later-fewer (last_at (e ∷ past)) (last_at past) i (ancestors past i) (last-fewer past e) above), not-under root past e i a known above (is_under past (node_of e) i) refl)
+    let before = later-fewer (last_at (e ∷ past)) (last_at past) i (ancestors past i) (last-fewer past e) above in
+    (free-then root past i free.0 there before, not-under root past e i a known above (is_under past (node_of e) i) refl)
   where
-    free-then : (root : Seat) (past : List Event) (i : ℕ) (node : Node) → node_at root past i ≡ Some node → frozen past i ≡ None → find_fault false root past i ≡ None
+    free-then : (root : Seat) (past : List Event) (i : ℕ) (node : Node) → node_at root past i ≡ Some node → frozen past i ≡ None →
+        find_fault false root past i ≡ None
     free-then root past i node h k = rw h k
 
-    not-under : (root : Seat) (past : List Event) (e : Event) (i : ℕ) → Accepted root (e ∷ past) → i ≤ newest past → nearest_later (λ n. n) (last_at (e ∷ past)) i (ancestors past i) ≡ None → (b : Bool) → is_under past (node_of e) i ≡ b → is_under past (node_of e) i ≡ false
+    not-under : (root : Seat) (past : List Event) (e : Event) (i : ℕ) → Accepted root (e ∷ past) → i ≤ newest past →
+        nearest_later (λ n. n) (last_at (e ∷ past)) i (ancestors past i) ≡ None → (b : Bool) → is_under past (node_of e) i ≡ b →
+        is_under past (node_of e) i ≡ false
     not-under root past e i a known above false same = same
     not-under root past e i a known above true same =
         let low = later-none (last_at (e ∷ past)) i (ancestors past i) (node_of e) above same in
@@ -155,7 +176,9 @@ tip (Open number _ _ _ ∷ past) = number
 abbrev pub OnePath : Seat → List Event → Type 0
 OnePath root past = (i : ℕ) → find_fault false root past i ≡ None → is_below past i (tip past) ≡ true
 
-path-step : (root : Seat) (past : List Event) (e : Event) (i : ℕ) → Accepted root (e ∷ past) → OnePath root past → find_fault false root past (node_of e) ≡ None → find_fault false root (e ∷ past) i ≡ None → (is_below past i (node_of e) ≡ true) ⊎ (opens e i ≡ true)
+path-step : (root : Seat) (past : List Event) (e : Event) (i : ℕ) → Accepted root (e ∷ past) → OnePath root past →
+    find_fault false root past (node_of e) ≡ None → find_fault false root (e ∷ past) i ≡ None →
+    (is_below past i (node_of e) ≡ true) ⊎ (opens e i ≡ true)
 path-step root past e i a path found free = go (opens e i) refl
   where
     beside : is_under past (node_of e) i ≡ false → AreComparable past i (node_of e) → is_below past i (node_of e) ≡ true

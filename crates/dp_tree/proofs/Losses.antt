@@ -32,7 +32,8 @@ term-le-sum f (y ∷ xs) x (suc k, l, e) =
     omega (arith, whole, rest)
 
 -- a sum of sums may be taken in either order
-pub sum-swap : {X Y : Type 0} (f : X → Y → ℕ) (xs : List X) (ys : List Y) → sum_by (λ x. sum_by (λ y. f x y) ys) xs ≡ sum_by (λ y. sum_by (λ x. f x y) xs) ys
+pub sum-swap : {X Y : Type 0} (f : X → Y → ℕ) (xs : List X) (ys : List Y) →
+    sum_by (λ x. sum_by (λ y. f x y) ys) xs ≡ sum_by (λ y. sum_by (λ x. f x y) xs) ys
 sum-swap {X} {Y} f [] ys = sym (sum_by-zero ys)
 sum-swap f (x ∷ xs) ys =
     let whole = sum_by-cons (λ z. sum_by (λ y. f z y) ys) x xs in
@@ -57,15 +58,18 @@ opened_below at (Ask _ _ _) j = false
 opened_below at (Open q n _ _) j = at n && eqb j q
 
 -- what is above a node stays
-pub ancestors-stay : (past : List Event) (e : Event) (i : ℕ) → newest past < number_of e → i ≤ newest past → ancestors (e ∷ past) i ≡ ancestors past i
+pub ancestors-stay : (past : List Event) (e : Event) (i : ℕ) → newest past < number_of e → i ≤ newest past →
+    ancestors (e ∷ past) i ≡ ancestors past i
 ancestors-stay past (Ask q n c) i h l = refl
 ancestors-stay past (Open q n seat m) i h l = rw (eqb-other q i (λ k. omega (arith, k, l, h))) refl
 
-pub below-stays : (past : List Event) (e : Event) (i j : ℕ) → newest past < number_of e → j ≤ newest past → is_below (e ∷ past) i j ≡ is_below past i j
+pub below-stays : (past : List Event) (e : Event) (i j : ℕ) → newest past < number_of e → j ≤ newest past →
+    is_below (e ∷ past) i j ≡ is_below past i j
 below-stays past e i j h l = ap (λ above. eqb j i || list_any (λ g. eqb g i) above) (ancestors-stay past e j h l)
 
 -- the node of a query is there
-pub event-node : (root : Seat) (past : List Event) (o : Event) → Accepted root past → Contains past o → (node : Node) × (node_at root past (node_of o) ≡ Some node)
+pub event-node : (root : Seat) (past : List Event) (o : Event) → Accepted root past → Contains past o →
+    (node : Node) × (node_at root past (node_of o) ≡ Some node)
 event-node root [] o a (k, l, h) = absurd (omega (arith, l))
 event-node root (e ∷ past) o a h = elim (one-of e past o h) [
   | inl same ↦
@@ -80,7 +84,8 @@ event-node root (e ∷ past) o a h = elim (one-of e past o h) [
 contains-more : (e : Event) (past : List Event) (o : Event) → Contains past o → Contains (e ∷ past) o
 contains-more e past o (k, l, h) = (suc k, omega (arith, l), h)
 
-opened-more : (past : List Event) (e : Event) (i j : ℕ) (o : Event) → newest past < number_of e → node_of o ≤ newest past → opened_below (is_below past i) o j ≡ true → opened_below (is_below (e ∷ past) i) o j ≡ true
+opened-more : (past : List Event) (e : Event) (i j : ℕ) (o : Event) → newest past < number_of e → node_of o ≤ newest past →
+    opened_below (is_below past i) o j ≡ true → opened_below (is_below (e ∷ past) i) o j ≡ true
 opened-more past e i j (Ask q n c) h l k = absurd cc
 opened-more past e i j (Open q n seat m) h l k = ap (λ b. b && eqb j q) (below-stays past e i n h l) ∙ k
 
@@ -88,7 +93,8 @@ and-true : (b c : Bool) → b ≡ true → c ≡ true → (b && c) ≡ true
 and-true b c h k = rw (h, k) refl
 
 -- the open that made a node which stands below another
-pub opened-by : (root : Seat) (past : List Event) (i j : ℕ) → Accepted root past → is_under past i j ≡ true → (o : Event) × Contains past o × (opened_below (is_below past i) o j ≡ true)
+pub opened-by : (root : Seat) (past : List Event) (i j : ℕ) → Accepted root past → is_under past i j ≡ true →
+    (o : Event) × Contains past o × (opened_below (is_below past i) o j ≡ true)
 opened-by root [] i j a h = absurd cc
 opened-by root (Ask q n c ∷ past) i j a h =
     let made = opened-by root past i j a.0 h in
@@ -98,7 +104,9 @@ opened-by root (Ask q n c ∷ past) i j a h =
     opened-same o k = k
 opened-by root (Open q n seat m ∷ past) i j a h = go (opened-by root past i j a.0) (eqb q j) refl
   where
-    go : (is_under past i j ≡ true → (o : Event) × Contains past o × (opened_below (is_below past i) o j ≡ true)) → (test : Bool) → eqb q j ≡ test → (o : Event) × Contains (Open q n seat m ∷ past) o × (opened_below (is_below (Open q n seat m ∷ past) i) o j ≡ true)
+    go : (is_under past i j ≡ true → (o : Event) × Contains past o × (opened_below (is_below past i) o j ≡ true)) →
+        (test : Bool) → eqb q j ≡ test →
+        (o : Event) × Contains (Open q n seat m ∷ past) o × (opened_below (is_below (Open q n seat m ∷ past) i) o j ≡ true)
     go ih true same =
         let there = none-or-some (node_at root past n) a.2 in
         let known = node-le root past n there.0 a.0 there.1 in
@@ -114,7 +122,8 @@ opened-by root (Open q n seat m ∷ past) i j a h = go (opened-by root past i j 
         (made.0, contains-more (Open q n seat m) past made.0 made.1, opened-more past (Open q n seat m) i j made.0 a.1 known made.2)
 
 -- each open's child declares its most
-declares-open : (past : List Event) (q n m : ℕ) (seat : Seat) → DeclaresAll past → Contains past (Open q n seat m) → IsSome (declared seat.rule)
+declares-open : (past : List Event) (q n m : ℕ) (seat : Seat) → DeclaresAll past → Contains past (Open q n seat m) →
+    IsSome (declared seat.rule)
 declares-open [] q n m seat d (k, l, h) = absurd (omega (arith, l))
 declares-open (e ∷ past) q n m seat d h = elim (one-of e past (Open q n seat m) h) [
   | inl same ↦ (let all = subst (λ (x : Event). DeclaresAll (x ∷ past)) same d in all.1)
@@ -125,18 +134,29 @@ declares-open (e ∷ past) q n m seat d h = elim (one-of e past (Open q n seat m
     declares-rest (Ask _ _ _) past d = d
     declares-rest (Open _ _ _ _) past d = d.0
 
--- the queries below a node that was opened here cost no more than the opens here
-below-opened : (root : Seat) (past : List Event) (i : ℕ) (e : Event) → Accepted root past → cond (is_under past i (node_of e)) (cost_of e) 0 ≤ sum_by (λ o. cond (opened_below (is_below past i) o (node_of e)) (cost_of e) 0) past
+-- what a query costs where its node meets the test, and nothing where it does not
+abbrev pub cost_where : (ℕ → Bool) → (Event → ℕ) → Event → ℕ
+cost_where at cost e = cond (at (node_of e)) (cost e) 0
+
+-- what a query costs where the other opened its node, below a node of the test
+abbrev pub cost_below : (ℕ → Bool) → Event → Event → ℕ
+cost_below at e o = cond (opened_below at o (node_of e)) (cost_of e) 0
+
+-- a query below node i has a node that an open made, at node i or below it
+below-opened : (root : Seat) (past : List Event) (i : ℕ) (e : Event) → Accepted root past →
+    cost_where (is_under past i) cost_of e ≤ sum_by (cost_below (is_below past i) e) past
 below-opened root past i e a = go (is_under past i (node_of e)) refl
   where
-    go : (b : Bool) → is_under past i (node_of e) ≡ b → cond b (cost_of e) 0 ≤ sum_by (λ o. cond (opened_below (is_below past i) o (node_of e)) (cost_of e) 0) past
+    go : (b : Bool) → is_under past i (node_of e) ≡ b → cond b (cost_of e) 0 ≤ sum_by (cost_below (is_below past i) e) past
     go false h = omega arith
     go true h =
         let made = opened-by root past i (node_of e) a h in
-        let term = term-le-sum (λ o. cond (opened_below (is_below past i) o (node_of e)) (cost_of e) 0) past made.0 made.1 in
+        let term = term-le-sum (cost_below (is_below past i) e) past made.0 made.1 in
         rw made.2 at term
 
-spent-opened : (root : Seat) (past : List Event) (at : ℕ → Bool) (o : Event) → Accepted root past → DeclaresAll past → Contains past o → sum_by (λ e. cond (opened_below at o (node_of e)) (cost_of e) 0) past ≤ cond (at (node_of o)) (open_cost o) 0
+-- the queries at an opened node cost no more than its open
+spent-opened : (root : Seat) (past : List Event) (at : ℕ → Bool) (o : Event) → Accepted root past → DeclaresAll past → Contains past o →
+    sum_by (λ e. cost_below at e o) past ≤ cost_where at open_cost o
 spent-opened root past at (Ask q n c) a d h = let none = sum_by-zero past in omega (arith, none)
 spent-opened root past at (Open q n seat m) a d h = go (at n)
   where
@@ -144,11 +164,14 @@ spent-opened root past at (Open q n seat m) a d h = go (at n)
     go true = child-law root past q n m seat a h (declares-open past q n m seat d h)
     go false = let none = sum_by-zero past in omega (arith, none)
 
-under-le : (root : Seat) (past : List Event) (i : ℕ) → Accepted root past → DeclaresAll past → sum_by (λ e. cond (is_under past i (node_of e)) (cost_of e) 0) past ≤ sum_by (λ o. cond (is_below past i (node_of o)) (open_cost o) 0) past
+-- the queries below a node cost no more than the opens at it and below it
+under-le : (root : Seat) (past : List Event) (i : ℕ) → Accepted root past → DeclaresAll past →
+    sum_by (cost_where (is_under past i) cost_of) past ≤ sum_by (cost_where (is_below past i) open_cost) past
 under-le root past i a d =
-    let spread = sum_by-le-sum_by (λ e. cond (is_under past i (node_of e)) (cost_of e) 0) (λ e. sum_by (λ o. cond (opened_below (is_below past i) o (node_of e)) (cost_of e) 0) past) past (λ e. below-opened root past i e a) in
-    let swapped = sum-swap (λ e o. cond (opened_below (is_below past i) o (node_of e)) (cost_of e) 0) past past in
-    let within = sum-le-where (λ o. sum_by (λ e. cond (opened_below (is_below past i) o (node_of e)) (cost_of e) 0) past) (λ o. cond (is_below past i (node_of o)) (open_cost o) 0) past (λ o h. spent-opened root past (is_below past i) o a d h) in
+    let at : ℕ → Bool = is_below past i in
+    let spread = sum_by-le-sum_by (cost_where (is_under past i) cost_of) (λ e. sum_by (cost_below at e) past) past (λ e. below-opened root past i e a) in
+    let swapped = sum-swap (cost_below at) past past in
+    let within = sum-le-where (λ o. sum_by (λ e. cost_below at e o) past) (cost_where at open_cost) past (λ o h. spent-opened root past at o a d h) in
     omega (arith, spread, swapped, within)
 
 -- a cost is that of an ask or of an open
@@ -164,10 +187,14 @@ either-le false b c = omega arith
 
 pub losses-law : LossesLaw
 losses-law root past i a d =
-    let split = sum_by-same (λ e. cond (is_below past i (node_of e)) (cost_of e) 0) (λ e. cond (is_below past i (node_of e)) (ask_cost e) 0 + cond (is_below past i (node_of e)) (open_cost e) 0) past (λ e. cost-split (is_below past i (node_of e)) e) in
-    let apart = sum_by-add (λ e. cond (is_below past i (node_of e)) (ask_cost e) 0) (λ e. cond (is_below past i (node_of e)) (open_cost e) 0) past in
-    let either = sum_by-le-sum_by (λ e. cond (is_below past i (node_of e)) (cost_of e) 0) (λ e. cond (eqb (node_of e) i) (cost_of e) 0 + cond (is_under past i (node_of e)) (cost_of e) 0) past (λ e. either-le (eqb (node_of e) i) (is_under past i (node_of e)) (cost_of e)) in
-    let joined = sum_by-add (λ e. cond (eqb (node_of e) i) (cost_of e) 0) (λ e. cond (is_under past i (node_of e)) (cost_of e) 0) past in
+    let at : ℕ → Bool = is_below past i in
+    let here : ℕ → Bool = λ j. eqb j i in
+    let under : ℕ → Bool = is_under past i in
+    let split = sum_by-same (cost_where at cost_of) (λ e. cost_where at ask_cost e + cost_where at open_cost e) past (λ e. cost-split (at (node_of e)) e) in
+    let apart = sum_by-add (cost_where at ask_cost) (cost_where at open_cost) past in
+    let either = sum_by-le-sum_by (cost_where at cost_of) (λ e. cost_where here cost_of e + cost_where under cost_of e) past
+    (λ e. either-le (here (node_of e)) (under (node_of e)) (cost_of e)) in
+    let joined = sum_by-add (cost_where here cost_of) (cost_where under cost_of) past in
     let below = under-le root past i a d in
     omega (arith, split, apart, either, joined, below)
 
@@ -176,7 +203,8 @@ or-true true c h = refl
 or-true false c h = h
 
 -- every node is the root or below it
-pub root-above : (root : Seat) (past : List Event) (i : ℕ) (node : Node) → Accepted root past → node_at root past i ≡ Some node → is_below past 0 i ≡ true
+pub root-above : (root : Seat) (past : List Event) (i : ℕ) (node : Node) → Accepted root past → node_at root past i ≡ Some node →
+    is_below past 0 i ≡ true
 root-above root [] i node a h = elim (eqb_tells i 0) [
   | inl k ↦ rw k.0 refl
   | inr k ↦ absurd (let e = rw k.0 at h in cc)
@@ -191,6 +219,12 @@ root-above root (Open q n seat m ∷ past) i node a h = elim (eqb_tells q i) [
 
 pub root-losses-law : RootLossesLaw
 root-losses-law root past a d =
-    let all = sum-le-where ask_cost (λ e. cond (is_below past 0 (node_of e)) (ask_cost e) 0) past (λ e h. let there = event-node root past e a h in let below = root-above root past (node_of e) there.0 a there.1 in rw below (omega arith)) in
+    let all = sum-le-where ask_cost (cost_where (is_below past 0) ask_cost) past (below-root root past a) in
     let within = losses-law root past 0 a d in
     omega (arith, all, within)
+  where
+    below-root : (root : Seat) (past : List Event) → Accepted root past → (e : Event) → Contains past e → ask_cost e ≤ cost_where (is_below past 0) ask_cost e
+    below-root root past a e h =
+        let there = event-node root past e a h in
+        let below = root-above root past (node_of e) there.0 a there.1 in
+        rw below (omega arith)

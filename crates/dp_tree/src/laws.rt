@@ -20,8 +20,8 @@ pub fn spent_law()
     ensures most { MostSpentLaw }
 {}
 
-/// Where each query was addressed to a node that was not frozen, the nodes that are not frozen after a query are its
-/// node, those above it, and the one that it opened. But for that one none has a greater number than its node.
+/// Where each query was addressed to a node that was not frozen, each node that is not frozen after a query is its
+/// node, stands above it, or was opened by it. But for the opened one none has a greater number than its node.
 pub fn frozen_law()
     ensures path { PathLaw }
     ensures number { FreeLaw }
