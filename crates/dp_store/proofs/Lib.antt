@@ -1,0 +1,3 @@
+pub mod AllNumbers
+pub mod ChosenRows
+pub mod StoredCells

@@ -1,0 +1,13 @@
+//! Records in one store, and selections of them by their numbers, which are shared. Filtering and truncating a
+//! selection give the numbers of the records that they would keep; no record is copied.
+#![tactic(auto)]
+
+mod chosen;
+mod selection;
+mod store;
+
+pub use selection::Selection;
+pub use store::{Store, read_store, store_of};
+
+#[cfg(test)]
+mod tests;
