@@ -1,5 +1,6 @@
 pub mod Joins
 pub mod Laws
+pub mod Line
 pub mod Lines
 pub mod LinesProof
 pub mod Meanings

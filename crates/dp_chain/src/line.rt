@@ -31,6 +31,11 @@ pub struct Line {
 }
 
 impl Line {
+    ghost use Rattle.dp_domain.specs.declared.values.Value.{Value};
+    ghost use Rattle.dp_domain.specs.Domains.{Has};
+    ghost use Rattle.dp_chain.specs.Lines.{composed};
+    ghost use Rattle.dp_chain.specs.Line.{line_stages};
+
     /// The transformations of the stages, made from first to last, each on the domain and the metric that the one
     /// before gives. The first stage that is refused decides, by the lowest of `Kind`, `Metric` and `Bound` that comes.
     pub fn make(
@@ -43,6 +48,20 @@ impl Line {
         ensures { MakesOr ⟦<Line as Transformation>⟧.mapping result (line_on stages.now domain metric) }
     {
         make_line(alloc, domain, metric, stages.as_slice())
+    }
+
+    /// The transformations from first to last. The line is these as one; each takes the domain and the metric that the
+    /// one before gives, and on a value of the line's input domain each has in its own what those before it give.
+    pub fn stages(&self) -> &[AnyTransformation]
+        ensures stages { result.now ≡ line_stages self.now }
+        ensures composed { let m = ⟦<Line as Transformation>⟧.mapping self.now in
+            m ≡ composed m.input_domain m.input_metric (stage_mappings result.now) }
+        ensures joined { let m = ⟦<Line as Transformation>⟧.mapping self.now in
+            AreJoined m.input_domain m.input_metric (stage_mappings result.now) }
+        ensures runs { let m = ⟦<Line as Transformation>⟧.mapping self.now in
+            (v : Value) → Has m.input_domain v → Runs (stage_mappings result.now) v }
+    {
+        self.stages.as_slice()
     }
 }
 

@@ -2,13 +2,16 @@ ghost use Rattle.std.specs.Prelude.{◌≡◌};
 ghost use Rattle.dp_domain.specs.Domains.{Fits};
 ghost use Rattle.dp_domain.specs.declared.domains.Domain.TheVariants as domain;
 ghost use Rattle.dp_domain.specs.declared.metrics.Metric.TheVariants as metrics;
+ghost use Rattle.dp_domain.specs.Domains.{Has};
+ghost use Rattle.dp_law.specs.Releasing.{Released};
+ghost use Rattle.dp_chain.specs.PartMeanings.{part_mechanism};
 ghost use Rattle.dp_chain.specs.Releases.{IsLike};
 
 use super::*;
 use dp_aggregate::{Count, Sum};
 use dp_count::NoMemory;
 use dp_domain::{Domain, Items, Metric, Text, Value};
-use dp_draws::Replay;
+use dp_draws::{Draws, Replay};
 use dp_geometric::Geometric;
 use dp_law::{Answer, MakeFault, Measurement, Piece, ReleaseFault, Transformation};
 use dp_num::Ratio;
@@ -237,6 +240,28 @@ fn a_line_goes_through_its_stages_in_order(rt: HostRuntime) -> Result<(), Fail> 
 }
 
 #[test]
+fn a_line_tells_its_stages_in_order(rt: HostRuntime) {
+    let counted = line(
+        &rt,
+        rt.alloc(),
+        [
+            Stage::Select { column: 1 },
+            Stage::Cast,
+            Stage::DropNone,
+            Stage::Count,
+        ],
+    )
+    .expect(&rt, "a line");
+    let [first, second, third, last] = counted.stages() else {
+        panic!(rt; "four stages");
+    };
+    assert!(rt; matches!(first, AnyTransformation::Select(select) if select.column() == 1));
+    assert!(rt; matches!(second, AnyTransformation::Cast(_)));
+    assert!(rt; matches!(third, AnyTransformation::DropNone(_)));
+    assert!(rt; matches!(last, AnyTransformation::Count(_)));
+}
+
+#[test]
 fn the_first_refused_stage_decides(rt: HostRuntime) {
     assert_eq!(rt;
         refusal(&rt, rt.alloc(), [Stage::Cast, Stage::Select { column: 9 }]),
@@ -333,6 +358,41 @@ fn two_parts_on_empty_data(rt: HostRuntime) -> Result<(), Fail> {
             Err(ReleaseFault::DrawFault)
         )
     );
+    Ok(())
+}
+
+/// What a part of a release answers, where its line is run first and then its noise.
+fn line_then_noise<D: Draws>(
+    alloc: Global,
+    part: &MeasuredLine,
+    v: &Value,
+    draws: &mut D,
+) -> Result<Answer, ReleaseFault>
+    requires { let m = part_mechanism part.now in Has m.input_domain v.now }
+    ensures { let m = part_mechanism part.now in
+        Released D.step m.shape (m.function v.now) (D.state draws.old) result (D.state draws.new) }
+{
+    let Ok(between) = part.first().apply(alloc, v) else {
+        return Err(ReleaseFault::NoMemory);
+    };
+    part.second().release(alloc, &between, draws)
+}
+
+#[test]
+fn a_part_answers_by_its_line_and_then_its_noise(rt: HostRuntime) -> Result<(), Fail> {
+    let mut parts = Vec::new(rt.alloc());
+    parts.push(counting(rt.alloc(), 1, 0, 3)?)?;
+    let made = release(&rt, rt.alloc(), parts).expect(&rt, "a release");
+    let value = one_record(rt.alloc(), "a", "7")?;
+    let mut draws = Replay::new(vec![in rt.alloc(); 0, 0, 0, 0]?);
+    let [part] = made.parts() else {
+        panic!(rt; "one part");
+    };
+    let domain = part.in_domain();
+    assert!(rt; domain.fits());
+    assert!(rt; domain.has(&value));
+    let answer = line_then_noise(rt.alloc(), part, &value, &mut draws).expect(&rt, "an answer");
+    assert!(rt; answer.len() == 1 && is_int(answer.at(0), 1));
     Ok(())
 }
 

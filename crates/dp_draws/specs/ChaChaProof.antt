@@ -2,7 +2,8 @@
 use Rattle.std.specs.Prelude.{ℕ, zero, suc, ◌≡◌, ◌<◌, ◌%◌, Bool, true, false, List, Some, nat_lt, if◌then◌else◌}
 use Rattle.std.proofs.Common.{arith}
 use Rattle.rand_chacha.specs.ChaCha.{ChaCha}
-use Rattle.dp_draws.specs.ChaChaDraws.{Drawn, two_words, taken_below, first_taken, most_turns, generator_of, chacha_step}
+use Rattle.dp_draws.specs.ChaChaDraws.{Drawn, two_words, taken_below, first_taken, most_turns}
+use Rattle.dp_draws.specs.ChaChaDraws.{generator_of, chacha_step}
 
 -- a remainder is below the bound, and so is what later numbers give
 one-below : (number bound draw : ℕ) (is_taken : Bool) (after : ChaCha) (later : Drawn) → 0 < bound

@@ -6,12 +6,14 @@ pub mod Categories
 pub mod CategoriesProof
 pub mod Clamp
 pub mod ClampProof
+pub mod Columns
 pub mod DropNone
 pub mod DropNoneProof
 pub mod Filter
 pub mod FilterProof
 pub mod Impute
 pub mod ImputeProof
+pub mod Parts
 pub mod Persons
 pub mod Select
 pub mod SelectProof

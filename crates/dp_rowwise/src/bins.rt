@@ -27,6 +27,9 @@ pub struct Bins {
 }
 
 impl Bins {
+    ghost use Rattle.dp_rowwise.specs.Bins.{bins_value};
+    ghost use Rattle.dp_rowwise.specs.Parts.{bin_edges};
+
     /// The bins between the edges. `Kind` comes exactly where the domain is not `Ints`, `Metric` exactly where it is
     /// and the metric is not that of its size, and `Bound` exactly where neither comes and the edges are not 1 to
     /// 1,023 strictly rising numbers from -2^31 to 2^31.
@@ -49,6 +52,15 @@ impl Bins {
             hi,
             size,
         })
+    }
+
+    /// How many edges are at most a number.
+    pub fn number(&self, number: &i64) -> u32
+        ensures value { result ≡ edges_at_most (bin_edges self.now) number.now }
+        ensures bins { let m = ⟦<Bins as Transformation>⟧.mapping self.now in
+            m.function ≡ bins_value (bin_edges self.now) }
+    {
+        edges_at_most(self.edges.as_slice(), number)
     }
 }
 

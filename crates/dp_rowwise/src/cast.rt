@@ -17,6 +17,8 @@ use std::alloc::Global;
 pub struct Cast;
 
 impl Cast {
+    ghost use Rattle.dp_rowwise.specs.Cast.{cast_value};
+
     /// The cast. `Kind` comes exactly where the domain is not `Texts`, and `Metric` exactly where it is and the metric
     /// is not `Symmetric`.
     pub fn new(domain: Domain, metric: Metric) -> Result<Cast, Refused>
@@ -30,6 +32,14 @@ impl Cast {
             return Err(Refused::Metric);
         }
         Ok(Cast)
+    }
+
+    /// The number that an optional `-` and one or more digits spell, from -2^31 to 2^31.
+    pub fn number(&self, text: &[u8]) -> Option<i64>
+        ensures value { result ≡ cast text.now }
+        ensures casts { let m = ⟦<Cast as Transformation>⟧.mapping self.now in m.function ≡ cast_value }
+    {
+        cast_text(text)
     }
 }
 

@@ -21,6 +21,9 @@ pub struct Categories {
 }
 
 impl Categories {
+    ghost use Rattle.dp_rowwise.specs.Categories.{categories_value};
+    ghost use Rattle.dp_rowwise.specs.Parts.{category_texts};
+
     /// The categories of the texts. `Kind` comes exactly where the domain is not `Texts`, `Metric` exactly where it is
     /// and the metric is not `Symmetric`, and `Bound` exactly where neither comes and the texts are not 1 to 1,023 that
     /// are all different.
@@ -46,6 +49,15 @@ impl Categories {
             return Err(MakeFault::Bound);
         };
         Ok(Categories { table })
+    }
+
+    /// The place of a text among the texts, from 0, or their number where it is not there.
+    pub fn number(&self, text: &[u8]) -> u32
+        ensures value { result ≡ place_in (category_texts self.now) text.now }
+        ensures numbers { let m = ⟦<Categories as Transformation>⟧.mapping self.now in
+            m.function ≡ categories_value (category_texts self.now) }
+    {
+        number_of(&self.table, text)
     }
 }
 
@@ -97,17 +109,17 @@ fn number_all(alloc: Global, table: &Table, texts: &[Text]) -> Result<Vec<u32>, 
     Ok(
         texts
             .iter()
-            .map(|text| number_of(table, text))
+            .map(|text| number_of(table, text.as_slice()))
             .collect(alloc)?,
     )
 }
 
 /// The place of a text.
-fn number_of(table: &Table, text: &Text) -> u32
+fn number_of(table: &Table, text: &[u8]) -> u32
     requires { length table.now ≤ 1023 }
     ensures { result ≡ place_in table.now text.now }
 {
-    table.number(text.as_slice()) as u32
+    table.number(text) as u32
 }
 
 /// The table of the texts, or none where two are equal.

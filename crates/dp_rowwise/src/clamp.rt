@@ -26,6 +26,9 @@ pub struct Clamp {
 }
 
 impl Clamp {
+    ghost use Rattle.dp_rowwise.specs.Clamp.{clamp_value};
+    ghost use Rattle.dp_rowwise.specs.Parts.{clamp_lo, clamp_hi};
+
     /// Clamping to `lo`..=`hi`. `Kind` comes exactly where the domain is not `Ints`, `Metric` exactly where it is and
     /// the metric is not that of its size, and `Bound` exactly where neither comes and not -2^31 ≤ lo ≤ hi ≤ 2^31.
     pub fn new(domain: Domain, metric: Metric, lo: i64, hi: i64) -> Result<Clamp, Refused>
@@ -53,6 +56,15 @@ impl Clamp {
             from_hi,
             size,
         })
+    }
+
+    /// The number of the range that is nearest to a number.
+    pub fn number(&self, number: &i64) -> i64
+        ensures value { result ≡ clamped (clamp_lo self.now) (clamp_hi self.now) number.now }
+        ensures clamps { let m = ⟦<Clamp as Transformation>⟧.mapping self.now in
+            m.function ≡ clamp_value (clamp_lo self.now) (clamp_hi self.now) }
+    {
+        clamped(&self.lo, &self.hi, number)
     }
 }
 

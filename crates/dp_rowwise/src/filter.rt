@@ -26,6 +26,10 @@ pub struct Filter {
 }
 
 impl Filter {
+    ghost use Rattle.dp_rowwise.specs.Filter.{filter_value};
+    ghost use Rattle.dp_rowwise.specs.Columns.{HasColumn};
+    ghost use Rattle.dp_rowwise.specs.Parts.{filter_column, filter_text};
+
     /// The filter of the column, from 0, by the text. `Kind` comes exactly where the domain is not `Rows`, `Metric`
     /// exactly where it is and the metric is neither `Symmetric` nor `Users` of a column of the domain, and `Bound`
     /// exactly where neither comes and the domain has no such column.
@@ -53,6 +57,23 @@ impl Filter {
             columns,
             metric,
         })
+    }
+
+    /// The column, from 0. The input domain has it.
+    pub fn column(&self) -> u32
+        ensures value { result ≡ filter_column self.now }
+        ensures within { let m = ⟦<Filter as Transformation>⟧.mapping self.now in HasColumn m.input_domain result }
+        ensures keeps { let m = ⟦<Filter as Transformation>⟧.mapping self.now in
+            m.function ≡ filter_value (filter_column self.now) (filter_text self.now) }
+    {
+        self.column
+    }
+
+    /// The text that a record has in the column to be kept.
+    pub fn text(&self) -> &[u8]
+        ensures { result.now ≡ filter_text self.now }
+    {
+        self.text.as_slice()
     }
 }
 

@@ -23,6 +23,9 @@ pub struct Impute {
 }
 
 impl Impute {
+    ghost use Rattle.dp_rowwise.specs.Impute.{impute_value};
+    ghost use Rattle.dp_rowwise.specs.Parts.{imputed_number};
+
     /// Imputing `value`. `Kind` comes exactly where the domain is not `OptInts`, `Metric` exactly where it is and the
     /// metric is not `Symmetric`, and `Bound` exactly where neither comes and the value is outside the domain's range.
     pub fn new(domain: Domain, metric: Metric, value: i64) -> Result<Impute, Refused>
@@ -39,6 +42,15 @@ impl Impute {
             return Err(Refused::Bound);
         }
         Ok(Impute { value, lo, hi })
+    }
+
+    /// The number, or the one that is imputed where it is missing.
+    pub fn number(&self, number: &Option<i64>) -> i64
+        ensures value { result ≡ unwrap_or number.now (imputed_number self.now) }
+        ensures imputes { let m = ⟦<Impute as Transformation>⟧.mapping self.now in
+            m.function ≡ impute_value (imputed_number self.now) }
+    {
+        (*number).unwrap_or(self.value)
     }
 }
 

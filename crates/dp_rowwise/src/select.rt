@@ -23,6 +23,10 @@ pub struct Select {
 }
 
 impl Select {
+    ghost use Rattle.dp_rowwise.specs.Select.{select_value};
+    ghost use Rattle.dp_rowwise.specs.Columns.{HasColumn};
+    ghost use Rattle.dp_rowwise.specs.Parts.{select_column};
+
     /// The selection of the column, from 0. `Kind` comes exactly where the domain is not `Rows`, `Metric` exactly where
     /// it is and the metric is not `Symmetric`, and `Bound` exactly where neither comes and the domain has no such
     /// column.
@@ -40,6 +44,16 @@ impl Select {
             return Err(Refused::Bound);
         }
         Ok(Select { column, columns })
+    }
+
+    /// The column, from 0. The input domain has it.
+    pub fn column(&self) -> u32
+        ensures value { result ≡ select_column self.now }
+        ensures within { let m = ⟦<Select as Transformation>⟧.mapping self.now in HasColumn m.input_domain result }
+        ensures selects { let m = ⟦<Select as Transformation>⟧.mapping self.now in
+            m.function ≡ select_value (select_column self.now) }
+    {
+        self.column
     }
 }
 

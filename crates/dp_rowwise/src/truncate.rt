@@ -31,6 +31,10 @@ pub struct Truncate {
 }
 
 impl Truncate {
+    ghost use Rattle.dp_rowwise.specs.Truncate.{truncate_value};
+    ghost use Rattle.dp_rowwise.specs.Columns.{HasColumn};
+    ghost use Rattle.dp_rowwise.specs.Parts.{truncate_column, truncate_most};
+
     /// Truncating to at most so many records of each person. `Kind` comes exactly where the domain is not `Rows`,
     /// `Metric` exactly where it is and the metric is not `Users` of a column of the domain, and `Bound` exactly where
     /// neither comes and the number is not from 1 to 2^20.
@@ -59,9 +63,20 @@ impl Truncate {
 
     /// How many records of a person stay at most.
     pub fn most(&self) -> u64
-        ensures { Truncates result (⟦<Truncate as Transformation>⟧.mapping self.now) }
+        ensures truncates { Truncates result (⟦<Truncate as Transformation>⟧.mapping self.now) }
+        ensures value { result ≡ truncate_most self.now }
     {
         self.most
+    }
+
+    /// The column whose cells name the persons, from 0. The input domain has it.
+    pub fn column(&self) -> u32
+        ensures value { result ≡ truncate_column self.now }
+        ensures within { let m = ⟦<Truncate as Transformation>⟧.mapping self.now in HasColumn m.input_domain result }
+        ensures keeps { let m = ⟦<Truncate as Transformation>⟧.mapping self.now in
+            m.function ≡ truncate_value (truncate_column self.now) (truncate_most self.now) }
+    {
+        self.column
     }
 }
 

@@ -1,3 +1,8 @@
+ghost use Rattle.std.specs.Prelude.{◌≡◌, IfOk, map};
+ghost use Rattle.dp_domain.specs.declared.values.Value.TheVariants as value;
+ghost use Rattle.dp_domain.specs.Ranges.{clamped};
+ghost use Rattle.dp_rowwise.specs.Parts.{clamp_lo, clamp_hi};
+
 use super::*;
 
 const OPTIONAL: Domain = Domain::OptInts { lo: -3, hi: 9 };
@@ -201,4 +206,41 @@ fn no_numbers_stay_none(rt: HostRuntime) -> Result<(), Fault> {
     )?;
     assert!(rt; is_cats(&places, &[]));
     Ok(())
+}
+
+#[test]
+fn one_number_is_treated_as_in_a_list(rt: HostRuntime) -> Result<(), Fault> {
+    let impute = Impute::new(OPTIONAL, Metric::Symmetric, 4)?;
+    assert_eq!(rt; impute.number(&Some(-3)), -3);
+    assert_eq!(rt; impute.number(&None), 4);
+    let clamp = Clamp::new(AGES, Metric::ChangeOne, 18, 60)?;
+    let bins = Bins::new(AGES, Metric::ChangeOne, copy_edges(rt.alloc(), &[18, 65])?)?;
+    for (number, nearest, bin) in [(17, 18, 0), (18, 18, 1), (64, 60, 1), (65, 60, 2)] {
+        assert_eq!(rt; clamp.number(&number), nearest);
+        assert_eq!(rt; bins.number(&number), bin);
+    }
+    let one_by_one = clamped_one_by_one(rt.alloc(), &clamp, &[17, 18, 64, 65])?;
+    assert!(rt; is_ints(&one_by_one, &[18, 18, 60, 60]));
+    Ok(())
+}
+
+/// What a clamp's function gives of a list, number by number.
+fn clamped_one_by_one(alloc: Global, clamp: &Clamp, numbers: &[i64]) -> Result<Value, NoMemory>
+    ensures { IfOk result (λ w. let m = ⟦<Clamp as Transformation>⟧.mapping clamp.now in
+        w ≡ m.function (value.Ints numbers.now)) }
+{
+    Ok(Value::Ints(Ints::from_vec(each_clamped(alloc, clamp, numbers)?)))
+}
+
+/// Each number clamped.
+fn each_clamped(alloc: Global, clamp: &Clamp, numbers: &[i64]) -> Result<Vec<i64>, NoMemory>
+    ensures { IfOk result (λ out. out.items
+        ≡ map (clamped (clamp_lo clamp.now) (clamp_hi clamp.now)) numbers.now) }
+{
+    Ok(
+        numbers
+            .iter()
+            .map(|number| clamp.number(number))
+            .collect(alloc)?,
+    )
 }

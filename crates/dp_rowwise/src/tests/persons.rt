@@ -97,6 +97,7 @@ fn truncating_is_refused_by_its_row(rt: HostRuntime) {
 fn a_person_counts_twice_as_many_records(rt: HostRuntime) -> Result<(), Fault> {
     let part = Truncate::new(TWO, Metric::Users(1), 2)?;
     assert_eq!(rt; part.most(), 2);
+    assert_eq!(rt; part.column(), 1);
     assert_eq!(rt; part.in_metric(), Metric::Users(1));
     assert_eq!(rt; part.out_metric(), Metric::Symmetric);
     for (d, wanted) in [

@@ -80,3 +80,15 @@ fn no_records_stay_none(rt: HostRuntime) -> Result<(), Fault> {
     assert!(rt; is_no_texts(&texts));
     Ok(())
 }
+
+#[test]
+fn a_filter_and_a_selection_tell_what_they_read(rt: HostRuntime) -> Result<(), Fault> {
+    let three = Domain::Rows { columns: 3 };
+    let text = copy_bytes(rt.alloc(), b"F")?;
+    let filter = Filter::new(three, Metric::Symmetric, 1, text)?;
+    assert_eq!(rt; filter.column(), 1);
+    assert!(rt; filter.text() == b"F".as_slice());
+    let select = Select::new(three, Metric::Symmetric, 2)?;
+    assert_eq!(rt; select.column(), 2);
+    Ok(())
+}

@@ -153,3 +153,20 @@ fn an_empty_list_stays_empty(rt: HostRuntime) -> Result<(), Fault> {
     assert!(rt; is_cats(&places, &[]));
     Ok(())
 }
+
+#[test]
+fn one_text_is_cast_and_numbered_as_in_a_list(rt: HostRuntime) -> Result<(), Fault> {
+    let cast = Cast::new(Domain::Texts, Metric::Symmetric)?;
+    let names = texts_of(rt.alloc(), &[b"007".as_slice(), b"12".as_slice()])?;
+    let categories = Categories::new(rt.alloc(), Domain::Texts, Metric::Symmetric, names)?;
+    for (text, number, place) in [
+        (b"12".as_slice(), Some(12), 1),
+        (b"007".as_slice(), Some(7), 0),
+        (b"-5".as_slice(), Some(-5), 2),
+        (b"12x".as_slice(), None, 2),
+    ] {
+        assert_eq!(rt; cast.number(text), number);
+        assert_eq!(rt; categories.number(text), place);
+    }
+    Ok(())
+}

@@ -1,5 +1,5 @@
 use Rattle.std.proofs.Common.{refl}
 use Rattle.dp_rowwise.proofs.truncate.Truncate.most.Goals as goal
 
-pub returns : goal.returns
-returns c = (c.args.self.now.column, c.args.self.now.columns, refl)
+pub returns-clause-truncates : goal.returns-clause-truncates
+returns-clause-truncates c = (c.args.self.now.column, c.args.self.now.columns, refl)
