@@ -1,4 +1,6 @@
+pub mod AcceptedContents
 pub mod Fronts
 pub mod InRange
 pub mod LastParts
+pub mod Spellings
 pub mod Views

@@ -1,4 +1,10 @@
 pub mod Costs
 pub mod Grants
+pub mod Histories
+pub mod NodeValues
+pub mod Privacy
+pub mod Replies
 pub mod Roots
 pub mod Standing
+pub mod Verdicts
+pub mod Ways

@@ -81,7 +81,7 @@ pub no-events : (pipeline : Content) → past_events pipeline [] ≡ []
 unfolding granted
 no-events pipeline = refl
 
-events-more : (pipeline : Content) (past : List (List ℕ)) (line : List ℕ) (v : Result Grant Refusal) → verdict pipeline past line ≡ v → past_events pipeline (line ∷ past) ≡ events (with_verdict v (granted pipeline past))
+pub events-more : (pipeline : Content) (past : List (List ℕ)) (line : List ℕ) (v : Result Grant Refusal) → verdict pipeline past line ≡ v → past_events pipeline (line ∷ past) ≡ events (with_verdict v (granted pipeline past))
 unfolding granted
 events-more pipeline past line v e = ap (λ r. events (with_verdict r (granted pipeline past))) e
 

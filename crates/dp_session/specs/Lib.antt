@@ -1,4 +1,5 @@
 pub mod Accounts
+pub mod Privacy
 pub mod QueryLines
 pub mod Runs
 pub mod Settling

@@ -7,6 +7,7 @@ mod account;
 mod end_line;
 mod faults;
 mod judge;
+pub mod laws;
 mod queries;
 mod refusal;
 mod task;

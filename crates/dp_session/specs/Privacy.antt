@@ -1,0 +1,32 @@
+-- When a pipeline is private: on data within its distance, every list of replies to every list of queries is given by
+-- numbers of draw lists that keep the ratio at the units spent.
+use Rattle.std.specs.Prelude.{ℕ, ◌≤◌, ◌≡◌, List, [], Result, Ok}
+use Rattle.dp_count.specs.Ratios.{KeepsRatio}
+use Rattle.dp_count.specs.Slots.{product_of_ways}
+use Rattle.dp_domain.specs.declared.values.Value.{Value}
+use Rattle.dp_domain.specs.declared.values.Value.TheVariants as value
+use Rattle.dp_domain.specs.Domains.{Has}
+use Rattle.dp_domain.specs.Users.{distance}
+use Rattle.dp_pipeline.specs.declared.content.Content.{Content}
+use Rattle.dp_pipeline.specs.Accepted.{accepted, root_domain}
+use Rattle.dp_session.specs.Verdicts.{units}
+use Rattle.dp_session.specs.Runs.{Reply, same_reply, query_slots, run_ways}
+
+-- for all values of the root that are within the pipeline's distance, all lists of lines and all lists of replies
+abbrev pub IsPrivateOnRecords : Content → Type 0
+IsPrivateOnRecords pipeline = (xs ys : List (List (List ℕ)))
+    → Has (root_domain pipeline) (value.Rows xs) → Has (root_domain pipeline) (value.Rows ys)
+    → distance pipeline.user xs ys ≤ pipeline.distance
+    → (lines : List (List ℕ)) (wanted : List Reply)
+    → KeepsRatio pipeline.p pipeline.q (units pipeline lines)
+    (run_ways pipeline (value.Rows xs) lines wanted) (run_ways pipeline (value.Rows ys) lines wanted)
+
+-- every accepted pipeline is private on records
+abbrev pub RecordsPrivacyLaw : Type 0
+RecordsPrivacyLaw = (bytes : List ℕ) (pipeline : Content) → accepted bytes ≡ Ok pipeline → IsPrivateOnRecords pipeline
+
+-- the number of draw lists of a run that give a list of replies is the product of the numbers of each query, and 0
+-- where there are not as many replies as queries
+abbrev pub RunWaysLaw : Type 0
+RunWaysLaw = (pipeline : Content) (root : Value) (lines : List (List ℕ)) (wanted : List Reply)
+    → run_ways pipeline root lines wanted ≡ product_of_ways same_reply (query_slots pipeline root [] lines) wanted
