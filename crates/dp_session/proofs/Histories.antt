@@ -1,21 +1,19 @@
 -- The accepted queries of any lines make a history in which each was admitted, and no child has an odometer.
-use Rattle.std.proofs.Common.{◌≡◌, ℕ, ◌+◌, ◌≤◌, ◌<◌, Bool, true, false, cond, Option, Some, None, inl, inr, Result, Ok, Err, List, [], ◌∷◌, length, is_some, option_map, eqb, ltb, refl, sym, subst, arith}
-use Rattle.std.specs.Prelude.{IsSome}
+use Rattle.std.proofs.Common.{◌≡◌, ℕ, ◌+◌, ◌≤◌, ◌<◌, Bool, true, false, cond, Option, Some, None, inl, inr, Result, Ok, Err, List, [], ◌∷◌, length, is_some, option_map, eqb, ltb, refl, arith}
 use Rattle.std.proofs.lemmas.Bool.Decides.{nat_tests}
 use Rattle.dp_budget.specs.declared.over.Over.{Over}
 use Rattle.dp_budget.specs.declared.budget.Rule.{Rule}
-use Rattle.dp_budget.specs.Rules.{declared, refusal}
-use Rattle.dp_tree.specs.declared.faults.SeatFault.{SeatFault}
+use Rattle.dp_budget.specs.Rules.{refusal}
 use Rattle.dp_tree.specs.declared.faults.SeatFault.TheVariants as seats
-use Rattle.dp_tree.specs.History.{Seat, Event, Ask, Open, Node, number_of, node_of, cost_of, newest, node_at, account, total, over_at, over_of_node, seat_fault, seat_fault_of_node, seat_refusal, Accepted}
+use Rattle.dp_tree.specs.History.{Seat, Event, Node, number_of, node_of, cost_of, newest, node_at, account, total, over_at, seat_fault, seat_refusal, Accepted}
 use Rattle.dp_tree.specs.Losses.{DeclaresAll}
 use Rattle.dp_pipeline.specs.declared.content.Content.{Content}
 use Rattle.dp_pipeline.specs.Places.{PlaceValue}
 use Rattle.dp_session.specs.declared.refusal.Refusal.{Refusal}
-use Rattle.dp_session.specs.Verdicts.{Grant, events, place_of, root_seat, with_verdict, granted, verdict, past_events}
+use Rattle.dp_session.specs.Verdicts.{Grant, place_of, root_seat, verdict, past_events}
 use Rattle.dp_pipeline.proofs.Spellings.{open-declares}
 use Rattle.dp_session.proofs.Standing.{judge-number, newest-le, no-events, events-more}
-use Rattle.dp_session.proofs.Verdicts.{IsAsk, IsOpen, past_nodes, ask-or-open}
+use Rattle.dp_session.proofs.Verdicts.{IsAsk, IsOpen, ask-or-open}
 
 -- the node at a place is there
 pub place-node : (o : Option Node) (at : PlaceValue) → option_map (λ (node : Node). place_of node.seat) o ≡ Some at → (node : Node) × (o ≡ Some node) × (at ≡ place_of node.seat)

@@ -1,5 +1,5 @@
 -- On data within a pipeline's distance, the two values of each node are within the node's distance.
-use Rattle.std.proofs.Common.{◌≡◌, ℕ, ◌+◌, ◌≤◌, Bool, true, false, cond, Option, Some, None, inl, inr, Result, Ok, Err, List, [], ◌∷◌, length, option_map, eqb, refl, sym, subst}
+use Rattle.std.proofs.Common.{◌≡◌, ℕ, ◌+◌, ◌≤◌, Option, Some, None, inl, inr, Result, Ok, Err, List, [], ◌∷◌, length, option_map, eqb, refl, sym, subst}
 use Rattle.dp_budget.specs.Rules.{BudgetValue}
 use Rattle.dp_chain.specs.declared.stage.Stage.{Stage}
 use Rattle.dp_chain.specs.Lines.{line_on}
@@ -16,14 +16,13 @@ use Rattle.dp_law.specs.Mapping.{Mapping}
 use Rattle.dp_pipeline.specs.Places.{PlaceValue}
 use Rattle.dp_pipeline.specs.declared.content.Content.{Content}
 use Rattle.dp_pipeline.specs.Accepted.{root_domain}
-use Rattle.dp_tree.specs.History.{Seat, Event, Node, Ask, Open, given, child, root_node, node_at}
+use Rattle.dp_tree.specs.History.{Node, given, child, root_node, node_at}
 use Rattle.dp_tree.proofs.Nodes.{made}
 use Rattle.dp_tree.proofs.Rows.{chosen}
 use Rattle.dp_session.specs.declared.refusal.Refusal.{Refusal}
 use Rattle.dp_session.specs.Runs.{value_after, value_at}
-use Rattle.dp_session.specs.Verdicts.{Grant, Release, Child, events, place_of, root_seat, with_verdict, granted, verdict, past_events}
+use Rattle.dp_session.specs.Verdicts.{Grant, events, root_seat, with_verdict, granted, verdict, past_events}
 use Rattle.dp_session.proofs.Histories.{place-node, seat-admits}
-use Rattle.dp_session.proofs.Standing.{no-events, events-more}
 use Rattle.dp_session.proofs.Verdicts.{IsAsk, IsOpen, ask-or-open}
 
 -- both values are of the node's domain, and they are within its distance
@@ -93,8 +92,8 @@ open-close pipeline past line v w grant before is =
     subst (CloseAfter pipeline past v w) (sym o.grant_is)
     (λ i node at. elim (chosen (eqb (length past + 1) i) (option_map (child is.node seat) (node_at root es is.node)) (node_at root es i) node at) [
       | inl k ↦ let same : ◌≡◌ {A = Option Node} (Some (child is.node seat above.0)) (Some node) = subst (λ (p : Option Node). option_map (child is.node seat) p ≡ Some node) above.1 k.1 in
-        let node_is : child is.node seat above.0 ≡ node = cc in
-        rw k.0 (subst (λ (n : Node). AreClose n (o.line.function (value_at v (granted pipeline past) is.node)) (o.line.function (value_at w (granted pipeline past) is.node))) node_is close)
+          let node_is : child is.node seat above.0 ≡ node = cc in
+          rw k.0 (subst (λ (n : Node). AreClose n (o.line.function (value_at v (granted pipeline past) is.node)) (o.line.function (value_at w (granted pipeline past) is.node))) node_is close)
       | inr k ↦ rw k.0 (before i node k.1)
     ])
 

@@ -1,5 +1,5 @@
 -- An accepted pipeline is private on records.
-use Rattle.std.proofs.Common.{◌≡◌, ℕ, zero, ◌+◌, ◌≤◌, ◌<◌, Bool, true, false, Option, Some, None, ◌⊎◌, inl, inr, Result, Ok, Err, List, [], ◌∷◌, ◌++◌, length, reverse, refl, sym, ◌∙◌, ap, subst, arith}
+use Rattle.std.proofs.Common.{◌≡◌, ℕ, ◌+◌, ◌≤◌, true, false, inl, inr, Result, Ok, Err, List, [], ◌∷◌, ◌++◌, length, reverse, refl, sym, ◌∙◌, ap, subst, arith}
 use Rattle.std.specs.Prelude.{nat_le}
 use Rattle.std.specs.List.{sum}
 use Rattle.std.proofs.lemmas.Bool.{and_parts}
@@ -8,7 +8,7 @@ use Rattle.std.proofs.lemmas.List.{append_assoc, append-nil, reverse-append}
 use Rattle.std.proofs.lemmas.List.Sums.{sum_by-cons}
 use Rattle.dp_count.specs.DrawLists.{count}
 use Rattle.dp_count.specs.Ratios.{KeepsRatio}
-use Rattle.dp_count.specs.Slots.{Slot, slot_ways, SlotsKeepRatios}
+use Rattle.dp_count.specs.Slots.{slot_ways, SlotsKeepRatios}
 use Rattle.dp_count.proofs.Ratios.{ratio-same, ratio-more}
 use Rattle.dp_count.proofs.Slots.{replies-ratio}
 use Rattle.dp_num.specs.Limits.{Fraction, is_ratio}
@@ -19,11 +19,10 @@ use Rattle.dp_domain.specs.declared.values.Value.TheVariants as value
 use Rattle.dp_domain.specs.Domains.{Has}
 use Rattle.dp_domain.specs.Metrics.{Within}
 use Rattle.dp_law.specs.declared.pieces.Piece.{Piece}
-use Rattle.dp_law.specs.AnswerEquality.{same_answer}
 use Rattle.dp_law.specs.Mechanism.{Mechanism, ways}
 use Rattle.dp_chain.specs.Releases.{release_on, cost_of}
 use Rattle.dp_chain.proofs.ReleaseLaws.{release-law}
-use Rattle.dp_tree.specs.History.{Node, Event, Ask, Open, node_at, root_node}
+use Rattle.dp_tree.specs.History.{node_at, root_node}
 use Rattle.dp_tree.specs.Losses.{ask_cost, all_losses}
 use Rattle.dp_tree.proofs.Losses.{root-losses-law}
 use Rattle.dp_pipeline.specs.declared.content.Content.{Content}
@@ -34,9 +33,9 @@ use Rattle.dp_pipeline.proofs.AcceptedContents.{accepted-content}
 use Rattle.dp_pipeline.proofs.InRange.{columns_few, ratio_in}
 use Rattle.dp_pipeline.proofs.Spellings.{AreFew, query-sound}
 use Rattle.dp_session.specs.declared.refusal.Refusal.{Refusal}
-use Rattle.dp_session.specs.Privacy.{RecordsPrivacyLaw}
+use Rattle.dp_session.specs.Privacy.{NodeValuesLaw, RecordsPrivacyLaw}
 use Rattle.dp_session.specs.Runs.{Reply, Refused, Opened, Answered, same_reply, value_at, query_shape, query_reply, query_slot, query_slots, run_ways}
-use Rattle.dp_session.specs.Verdicts.{Grant, with_verdict, events, granted, verdict, past_events, root_seat, root_spent, units}
+use Rattle.dp_session.specs.Verdicts.{Grant, granted, verdict, past_events, root_seat, units}
 use Rattle.dp_session.proofs.Costs.{cost-loss}
 use Rattle.dp_session.proofs.Histories.{place-node, past-accepted, past-declares}
 use Rattle.dp_session.proofs.NodeValues.{AreClose, AllClose, root-close, values-close}
@@ -131,7 +130,7 @@ ask-keeps pipeline past line v w grant usable close is =
     let other : Has a.release.input_domain ws = subst (λ (d : Domain). Has d ws) (sym law.input_domain) near.other in
     let within : Within a.release.input_metric seat.distance vs ws = subst (λ (m : Metric). Within m seat.distance vs ws) (sym law.input_metric) near.near in
     let keeps : (answer : List Piece) → KeepsRatio pipeline.p pipeline.q a.cost (ways a.release vs answer) (ways a.release ws answer) =
-        λ answer. subst (λ (f : Fraction). KeepsRatio f.p f.q a.cost (ways a.release vs answer) (ways a.release ws answer)) law.one_ratio (law.private.private seat.distance a.cost vs ws answer loss one other within) in
+    λ answer. subst (λ (f : Fraction). KeepsRatio f.p f.q a.cost (ways a.release vs answer) (ways a.release ws answer)) law.one_ratio (law.private.private seat.distance a.cost vs ws answer loss one other within) in
     subst (λ (g : Grant). KeepsAt pipeline past v w (Ok g)) (sym a.grant_is)
     (release-keeps ratio a.release a.cost vs ws (below pipeline.p pipeline.q usable.ratio) keeps)
 
@@ -175,3 +174,9 @@ records-privacy bytes pipeline is xs ys one other near lines wanted =
     let in_range = known.accepted.in_range in
     run-keeps pipeline (value.Rows xs) (value.Rows ys) (record { ratio = ratio_in pipeline in_range; few = known.few })
     (root-close pipeline xs ys (columns_few pipeline in_range) one other near) lines wanted
+
+-- the values of each node
+pub node-values : NodeValuesLaw
+node-values bytes pipeline is xs ys one other near past i node at =
+    let in_range = (accepted-content bytes pipeline is).accepted.in_range in
+    (values-close pipeline (value.Rows xs) (value.Rows ys) (root-close pipeline xs ys (columns_few pipeline in_range) one other near) past i node at).near

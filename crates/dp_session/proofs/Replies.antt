@@ -1,5 +1,5 @@
 -- The test of equality tells equal replies from different ones.
-use Rattle.std.proofs.Common.{◌≡◌, ℕ, Bool, true, false, ◌&&◌, ap, refl}
+use Rattle.std.proofs.Common.{◌≡◌, ℕ, ◌&&◌, ap, refl}
 use Rattle.std.specs.Prelude.{Decides, nat_eq}
 use Rattle.std.proofs.lemmas.Bool.{and_parts}
 use Rattle.dp_domain.proofs.Equality.{nat_eq-decides}

@@ -1,6 +1,5 @@
 -- An accepted query is an ask or an open.
-use Rattle.std.proofs.Common.{◌≡◌, ℕ, ◌+◌, Option, Some, None, ◌⊎◌, inl, inr, Result, Ok, Err, List, [], ◌∷◌, length, refl}
-use Rattle.dp_num.specs.Limits.{Fraction}
+use Rattle.std.proofs.Common.{◌≡◌, ℕ, ◌+◌, Option, Some, None, ◌⊎◌, inl, inr, Ok, List, length, refl}
 use Rattle.dp_budget.specs.Rules.{BudgetValue}
 use Rattle.dp_chain.specs.declared.stage.Stage.{Stage}
 use Rattle.dp_pipeline.specs.declared.content.Content.{Content}
@@ -38,10 +37,16 @@ ask-or-open pipeline past line grant h = go (query_of pipeline line) refl h
     go : (q : Option Query) → query_of pipeline line ≡ q → judge (ratio_of pipeline) (past_nodes pipeline past) (length past + 1) q ≡ Ok grant → IsAsk pipeline past line grant ⊎ IsOpen pipeline past line grant
     go None e h = absurd cc
     go (Some (query.Ask node spec)) e h = inl (record {
-      node = node; spec = spec; spells = e;
+      node = node;
+      spec = spec;
+      spells = e;
       asked = asked (ratio_of pipeline) (past_nodes pipeline past) (length past + 1) node spec.parts grant h;
     })
     go (Some (query.Open node stages distance budget)) e h = inr (record {
-      node = node; stages = stages; distance = distance; budget = budget; spells = e;
+      node = node;
+      stages = stages;
+      distance = distance;
+      budget = budget;
+      spells = e;
       opened = opened (past_nodes pipeline past) (length past + 1) node stages distance budget grant h;
     })

@@ -1,5 +1,5 @@
 -- How many draw lists of a run give a list of replies.
-use Rattle.std.proofs.Common.{◌≡◌, ℕ, List, []}
+use Rattle.std.proofs.Common.{[]}
 use Rattle.dp_count.proofs.Slots.{count-replies}
 use Rattle.dp_session.specs.Privacy.{RunWaysLaw}
 use Rattle.dp_session.specs.Runs.{same_reply, query_slots, run_ways}

@@ -1,16 +1,19 @@
 -- When a pipeline is private: on data within its distance, every list of replies to every list of queries is given by
 -- numbers of draw lists that keep the ratio at the units spent.
-use Rattle.std.specs.Prelude.{ℕ, ◌≤◌, ◌≡◌, List, [], Result, Ok}
+use Rattle.std.specs.Prelude.{ℕ, ◌≤◌, ◌≡◌, List, [], Some, Ok, Decides}
 use Rattle.dp_count.specs.Ratios.{KeepsRatio}
 use Rattle.dp_count.specs.Slots.{product_of_ways}
 use Rattle.dp_domain.specs.declared.values.Value.{Value}
 use Rattle.dp_domain.specs.declared.values.Value.TheVariants as value
 use Rattle.dp_domain.specs.Domains.{Has}
+use Rattle.dp_domain.specs.Metrics.{Within}
 use Rattle.dp_domain.specs.Users.{distance}
 use Rattle.dp_pipeline.specs.declared.content.Content.{Content}
 use Rattle.dp_pipeline.specs.Accepted.{accepted, root_domain}
-use Rattle.dp_session.specs.Verdicts.{units}
-use Rattle.dp_session.specs.Runs.{Reply, same_reply, query_slots, run_ways}
+use Rattle.dp_tree.specs.History.{Node, node_at, Accepted}
+use Rattle.dp_tree.specs.Losses.{DeclaresAll}
+use Rattle.dp_session.specs.Runs.{Reply, same_reply, value_at, query_slots, run_ways}
+use Rattle.dp_session.specs.Verdicts.{root_seat, granted, past_events, units}
 
 -- for all values of the root that are within the pipeline's distance, all lists of lines and all lists of replies
 abbrev pub IsPrivateOnRecords : Content → Type 0
@@ -25,8 +28,28 @@ IsPrivateOnRecords pipeline = (xs ys : List (List (List ℕ)))
 abbrev pub RecordsPrivacyLaw : Type 0
 RecordsPrivacyLaw = (bytes : List ℕ) (pipeline : Content) → accepted bytes ≡ Ok pipeline → IsPrivateOnRecords pipeline
 
+-- the test of equality of replies tells equal ones from different ones
+abbrev pub SameReplyLaw : Type 0
+SameReplyLaw = (one other : Reply) → Decides (same_reply one other) (one ≡ other)
+
 -- the number of draw lists of a run that give a list of replies is the product of the numbers of each query, and 0
 -- where there are not as many replies as queries
 abbrev pub RunWaysLaw : Type 0
 RunWaysLaw = (pipeline : Content) (root : Value) (lines : List (List ℕ)) (wanted : List Reply)
     → run_ways pipeline root lines wanted ≡ product_of_ways same_reply (query_slots pipeline root [] lines) wanted
+
+-- the accepted queries of any lines were admitted one after the other, and none opened a child with an odometer
+abbrev pub HistoryLaw : Type 0
+HistoryLaw = (pipeline : Content) (past : List (List ℕ))
+    → Accepted (root_seat pipeline) (past_events pipeline past) × DeclaresAll (past_events pipeline past)
+
+-- of an accepted pipeline, on records within its distance, the two values of each node are within the node's distance
+abbrev pub NodeValuesLaw : Type 0
+NodeValuesLaw = (bytes : List ℕ) (pipeline : Content) → accepted bytes ≡ Ok pipeline
+    → (xs ys : List (List (List ℕ)))
+    → Has (root_domain pipeline) (value.Rows xs) → Has (root_domain pipeline) (value.Rows ys)
+    → distance pipeline.user xs ys ≤ pipeline.distance
+    → (past : List (List ℕ)) (i : ℕ) (node : Node)
+    → node_at (root_seat pipeline) (past_events pipeline past) i ≡ Some node
+    → Within node.seat.metric node.seat.distance
+    (value_at (value.Rows xs) (granted pipeline past) i) (value_at (value.Rows ys) (granted pipeline past) i)

@@ -1,9 +1,18 @@
 //! The laws of whole runs of queries. Each is the contract of a function that does nothing.
-ghost use Rattle.dp_session.specs.Privacy.{RecordsPrivacyLaw, RunWaysLaw};
+ghost use Rattle.dp_session.specs.Privacy.{SameReplyLaw, RunWaysLaw, HistoryLaw, NodeValuesLaw, RecordsPrivacyLaw};
 
-/// The number of draw lists of a run that give a list of replies is the product of the numbers of each query.
-pub fn run_law()
-    ensures { RunWaysLaw }
+/// The number of draw lists of a run that give a list of replies is the product of the numbers of each query, where
+/// replies are the same exactly where they are equal.
+pub fn ways_law()
+    ensures same { SameReplyLaw }
+    ensures product { RunWaysLaw }
+{}
+
+/// The accepted queries of any lines were admitted one after the other, no child has an odometer, and on records within
+/// an accepted pipeline's distance the values of each node are within the node's.
+pub fn nodes_law()
+    ensures history { HistoryLaw }
+    ensures values { NodeValuesLaw }
 {}
 
 /// For every accepted pipeline, all records within its distance, all lists of queries and all lists of replies, the
@@ -11,3 +20,26 @@ pub fn run_law()
 pub fn privacy_law()
     ensures { RecordsPrivacyLaw }
 {}
+
+#[cfg(test)]
+mod tests {
+    use super::*;
+
+    /// A call gives its law to the function that makes it.
+    fn given()
+        ensures same { SameReplyLaw }
+        ensures product { RunWaysLaw }
+        ensures history { HistoryLaw }
+        ensures values { NodeValuesLaw }
+        ensures records { RecordsPrivacyLaw }
+    {
+        ways_law();
+        nodes_law();
+        privacy_law();
+    }
+
+    #[test]
+    fn a_call_gives_its_law(_rt: HostRuntime) {
+        given();
+    }
+}

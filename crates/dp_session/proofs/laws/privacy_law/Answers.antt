@@ -1,4 +1,3 @@
-use Rattle.dp_session.proofs.Replies.{same_reply-decides}
 use Rattle.dp_session.proofs.Privacy.{records-privacy}
 use Rattle.dp_session.proofs.laws.privacy_law.Goals as goal
 
