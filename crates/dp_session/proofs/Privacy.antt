@@ -1,5 +1,5 @@
 -- An accepted pipeline is private on records.
-use Rattle.std.proofs.Common.{◌≡◌, ℕ, ◌+◌, ◌≤◌, true, false, inl, inr, Result, Ok, Err, List, [], ◌∷◌, ◌++◌, length, reverse, refl, sym, ◌∙◌, ap, subst, arith}
+use Rattle.std.proofs.Common.{◌≡◌, ℕ, ◌+◌, ◌≤◌, ◌^◌, true, false, inl, inr, Result, Ok, Err, List, [], ◌∷◌, ◌++◌, length, reverse, refl, sym, ◌∙◌, ap, subst, arith}
 use Rattle.std.specs.Prelude.{nat_le}
 use Rattle.std.specs.List.{sum}
 use Rattle.std.proofs.lemmas.Bool.{and_parts}
@@ -26,14 +26,15 @@ use Rattle.dp_tree.specs.History.{node_at, root_node}
 use Rattle.dp_tree.specs.Losses.{ask_cost, all_losses}
 use Rattle.dp_tree.proofs.Losses.{root-losses-law}
 use Rattle.dp_pipeline.specs.declared.content.Content.{Content}
-use Rattle.dp_pipeline.specs.Accepted.{ratio_of}
+use Rattle.dp_pipeline.specs.Accepted.{ratio_of, root_domain}
 use Rattle.dp_pipeline.specs.Places.{PlaceValue}
 use Rattle.dp_pipeline.specs.StageForms.{few_parts}
 use Rattle.dp_pipeline.proofs.AcceptedContents.{accepted-content}
 use Rattle.dp_pipeline.proofs.InRange.{columns_few, ratio_in}
 use Rattle.dp_pipeline.proofs.Spellings.{AreFew, query-sound}
+use Rattle.dp_records.proofs.RowCells.{records-few, records-AllOf}
 use Rattle.dp_session.specs.declared.refusal.Refusal.{Refusal}
-use Rattle.dp_session.specs.Privacy.{NodeValuesLaw, RecordsPrivacyLaw}
+use Rattle.dp_session.specs.Privacy.{PrivacyLaw, NodeValuesLaw, RecordsPrivacyLaw, text_records}
 use Rattle.dp_session.specs.Runs.{Reply, Refused, Opened, Answered, same_reply, value_at, query_shape, query_reply, query_slot, query_slots, run_ways}
 use Rattle.dp_session.specs.Verdicts.{Grant, granted, verdict, past_events, root_seat, units}
 use Rattle.dp_session.proofs.Costs.{cost-loss}
@@ -174,6 +175,12 @@ records-privacy bytes pipeline is xs ys one other near lines wanted =
     let in_range = known.accepted.in_range in
     run-keeps pipeline (value.Rows xs) (value.Rows ys) (record { ratio = ratio_in pipeline in_range; few = known.few })
     (root-close pipeline xs ys (columns_few pipeline in_range) one other near) lines wanted
+
+-- every text has records of the root's domain
+pub texts-privacy : PrivacyLaw
+texts-privacy bytes pipeline is x y few few_other near lines wanted =
+    let has : (text : List ℕ) → Has (root_domain pipeline) (value.Rows (text_records pipeline text)) = λ text. (records-few (2 ^ 30) (length pipeline.columns) pipeline.header text, records-AllOf (2 ^ 30) (length pipeline.columns) pipeline.header text) in
+    records-privacy bytes pipeline is (text_records pipeline x) (text_records pipeline y) (has x) (has y) near lines wanted
 
 -- the values of each node
 pub node-values : NodeValuesLaw

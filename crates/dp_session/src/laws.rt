@@ -1,5 +1,5 @@
 //! The laws of whole runs of queries. Each is the contract of a function that does nothing.
-ghost use Rattle.dp_session.specs.Privacy.{SameReplyLaw, RunWaysLaw, HistoryLaw, NodeValuesLaw, RecordsPrivacyLaw};
+ghost use Rattle.dp_session.specs.Privacy.{SameReplyLaw, RunWaysLaw, HistoryLaw, NodeValuesLaw, PrivacyLaw, RecordsPrivacyLaw};
 
 /// The number of draw lists of a run that give a list of replies is the product of the numbers of each query, where
 /// replies are the same exactly where they are equal.
@@ -15,10 +15,12 @@ pub fn nodes_law()
     ensures values { NodeValuesLaw }
 {}
 
-/// For every accepted pipeline, all records within its distance, all lists of queries and all lists of replies, the
-/// numbers of draw lists that give the replies keep the ratio at the units that the queries spend.
+/// For every accepted pipeline, all data texts within its distance, all lists of queries and all lists of replies, the
+/// numbers of draw lists that give the replies keep the ratio at the units that the queries spend. It is so too of all
+/// records of the pipeline's columns within its distance, whatever text they come from.
 pub fn privacy_law()
-    ensures { RecordsPrivacyLaw }
+    ensures texts { PrivacyLaw }
+    ensures records { RecordsPrivacyLaw }
 {}
 
 #[cfg(test)]
@@ -31,6 +33,7 @@ mod tests {
         ensures product { RunWaysLaw }
         ensures history { HistoryLaw }
         ensures values { NodeValuesLaw }
+        ensures texts { PrivacyLaw }
         ensures records { RecordsPrivacyLaw }
     {
         ways_law();
