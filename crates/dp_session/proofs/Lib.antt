@@ -3,6 +3,7 @@ pub mod Grants
 pub mod Histories
 pub mod NodeValues
 pub mod Privacy
+pub mod PrivacyEdges
 pub mod Replies
 pub mod Roots
 pub mod Standing

@@ -1,5 +1,6 @@
 pub mod Accounts
 pub mod Privacy
+pub mod PrivacyEdges
 pub mod QueryLines
 pub mod Runs
 pub mod Settling

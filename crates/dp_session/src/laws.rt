@@ -1,5 +1,6 @@
 //! The laws of whole runs of queries. Each is the contract of a function that does nothing.
 ghost use Rattle.dp_session.specs.Privacy.{SameReplyLaw, RunWaysLaw, HistoryLaw, NodeValuesLaw, PrivacyLaw, RecordsPrivacyLaw};
+ghost use Rattle.dp_session.specs.PrivacyEdges.{EdgeLaw};
 
 /// The number of draw lists of a run that give a list of replies is the product of the numbers of each query, where
 /// replies are the same exactly where they are equal.
@@ -23,6 +24,11 @@ pub fn privacy_law()
     ensures records { RecordsPrivacyLaw }
 {}
 
+/// At one pipeline and one query the ratio is met with nothing to spare.
+pub fn edge_law()
+    ensures { EdgeLaw }
+{}
+
 #[cfg(test)]
 mod tests {
     use super::*;
@@ -35,10 +41,12 @@ mod tests {
         ensures values { NodeValuesLaw }
         ensures texts { PrivacyLaw }
         ensures records { RecordsPrivacyLaw }
+        ensures edge { EdgeLaw }
     {
         ways_law();
         nodes_law();
         privacy_law();
+        edge_law();
     }
 
     #[test]
