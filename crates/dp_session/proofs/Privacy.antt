@@ -34,7 +34,7 @@ use Rattle.dp_pipeline.proofs.InRange.{columns_few, ratio_in}
 use Rattle.dp_pipeline.proofs.Spellings.{AreFew, query-sound}
 use Rattle.dp_records.proofs.RowCells.{records-few, records-AllOf}
 use Rattle.dp_session.specs.declared.refusal.Refusal.{Refusal}
-use Rattle.dp_session.specs.Privacy.{PrivacyLaw, NodeValuesLaw, RecordsPrivacyLaw, text_records}
+use Rattle.dp_session.specs.Privacy.{PrivacyLaw, NodeValuesLaw, TextValuesLaw, RecordsPrivacyLaw, text_records}
 use Rattle.dp_session.specs.Runs.{Reply, Refused, Opened, Answered, same_reply, value_at, query_shape, query_reply, query_slot, query_slots, run_ways}
 use Rattle.dp_session.specs.Verdicts.{Grant, granted, verdict, past_events, root_seat, units}
 use Rattle.dp_session.proofs.Costs.{cost-loss}
@@ -177,13 +177,19 @@ records-privacy bytes pipeline is xs ys one other near lines wanted =
     (root-close pipeline xs ys (columns_few pipeline in_range) one other near) lines wanted
 
 -- every text has records of the root's domain
+text-has : (pipeline : Content) (text : List ℕ) → Has (root_domain pipeline) (value.Rows (text_records pipeline text))
+text-has pipeline text = (records-few (2 ^ 30) (length pipeline.columns) pipeline.header text, records-AllOf (2 ^ 30) (length pipeline.columns) pipeline.header text)
+
 pub texts-privacy : PrivacyLaw
 texts-privacy bytes pipeline is x y few few_other near lines wanted =
-    let has : (text : List ℕ) → Has (root_domain pipeline) (value.Rows (text_records pipeline text)) = λ text. (records-few (2 ^ 30) (length pipeline.columns) pipeline.header text, records-AllOf (2 ^ 30) (length pipeline.columns) pipeline.header text) in
-    records-privacy bytes pipeline is (text_records pipeline x) (text_records pipeline y) (has x) (has y) near lines wanted
+    records-privacy bytes pipeline is (text_records pipeline x) (text_records pipeline y) (text-has pipeline x) (text-has pipeline y) near lines wanted
 
 -- the values of each node
 pub node-values : NodeValuesLaw
 node-values bytes pipeline is xs ys one other near past i node at =
     let in_range = (accepted-content bytes pipeline is).accepted.in_range in
     (values-close pipeline (value.Rows xs) (value.Rows ys) (root-close pipeline xs ys (columns_few pipeline in_range) one other near) past i node at).near
+
+pub text-values : TextValuesLaw
+text-values bytes pipeline is x y near past i node at =
+    node-values bytes pipeline is (text_records pipeline x) (text_records pipeline y) (text-has pipeline x) (text-has pipeline y) near past i node at

@@ -3,6 +3,7 @@ pub mod Privacy
 pub mod PrivacyEdges
 pub mod QueryLines
 pub mod Runs
+pub mod RunWays
 pub mod Settling
 pub mod Works
 pub mod Verdicts

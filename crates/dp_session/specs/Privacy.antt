@@ -1,9 +1,7 @@
--- When a pipeline is private: on data texts within its distance, every list of replies to every list of queries is given
--- by numbers of draw lists that keep the ratio at the units spent.
-use Rattle.std.specs.Prelude.{ℕ, ◌^◌, ◌≤◌, ◌≡◌, List, [], length, Some, Ok, Decides}
+-- When a pipeline is private: on data texts within its distance, every list of replies to every list of queries is
+-- given by numbers of draw lists that keep the ratio at the units spent.
+use Rattle.std.specs.Prelude.{ℕ, ◌^◌, ◌≤◌, ◌≡◌, List, length, Some, Ok, Decides}
 use Rattle.dp_count.specs.Ratios.{KeepsRatio}
-use Rattle.dp_count.specs.Slots.{product_of_ways}
-use Rattle.dp_domain.specs.declared.values.Value.{Value}
 use Rattle.dp_domain.specs.declared.values.Value.TheVariants as value
 use Rattle.dp_domain.specs.Domains.{Has}
 use Rattle.dp_domain.specs.Metrics.{Within}
@@ -13,7 +11,7 @@ use Rattle.dp_pipeline.specs.Accepted.{accepted, root_domain}
 use Rattle.dp_records.specs.Records.{records}
 use Rattle.dp_tree.specs.History.{Node, node_at, Accepted}
 use Rattle.dp_tree.specs.Losses.{DeclaresAll}
-use Rattle.dp_session.specs.Runs.{Reply, same_reply, value_at, query_slots, run_ways}
+use Rattle.dp_session.specs.Runs.{Reply, same_reply, value_at, run_ways}
 use Rattle.dp_session.specs.Verdicts.{root_seat, granted, past_events, units}
 
 -- the records of a data text under a pipeline
@@ -54,12 +52,6 @@ RecordsPrivacyLaw = (bytes : List ℕ) (pipeline : Content) → accepted bytes �
 abbrev pub SameReplyLaw : Type 0
 SameReplyLaw = (one other : Reply) → Decides (same_reply one other) (one ≡ other)
 
--- the number of draw lists of a run that give a list of replies is the product of the numbers of each query, and 0
--- where there are not as many replies as queries
-abbrev pub RunWaysLaw : Type 0
-RunWaysLaw = (pipeline : Content) (root : Value) (lines : List (List ℕ)) (wanted : List Reply)
-    → run_ways pipeline root lines wanted ≡ product_of_ways same_reply (query_slots pipeline root [] lines) wanted
-
 -- the accepted queries of any lines were admitted one after the other, and none opened a child with an odometer
 abbrev pub HistoryLaw : Type 0
 HistoryLaw = (pipeline : Content) (past : List (List ℕ))
@@ -75,3 +67,13 @@ NodeValuesLaw = (bytes : List ℕ) (pipeline : Content) → accepted bytes ≡ O
     → node_at (root_seat pipeline) (past_events pipeline past) i ≡ Some node
     → Within node.seat.metric node.seat.distance
     (value_at (value.Rows xs) (granted pipeline past) i) (value_at (value.Rows ys) (granted pipeline past) i)
+
+-- the same on data texts
+abbrev pub TextValuesLaw : Type 0
+TextValuesLaw = (bytes : List ℕ) (pipeline : Content) → accepted bytes ≡ Ok pipeline
+    → (x y : List ℕ) → texts_apart pipeline x y ≤ pipeline.distance
+    → (past : List (List ℕ)) (i : ℕ) (node : Node)
+    → node_at (root_seat pipeline) (past_events pipeline past) i ≡ Some node
+    → Within node.seat.metric node.seat.distance
+    (value_at (value.Rows (text_records pipeline x)) (granted pipeline past) i)
+    (value_at (value.Rows (text_records pipeline y)) (granted pipeline past) i)

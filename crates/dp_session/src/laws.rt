@@ -1,24 +1,29 @@
 //! The laws of whole runs of queries. Each is the contract of a function that does nothing.
-ghost use Rattle.dp_session.specs.Privacy.{SameReplyLaw, RunWaysLaw, HistoryLaw, NodeValuesLaw, PrivacyLaw, RecordsPrivacyLaw};
+ghost use Rattle.dp_session.specs.Privacy.{SameReplyLaw, HistoryLaw, NodeValuesLaw, TextValuesLaw};
+ghost use Rattle.dp_session.specs.Privacy.{PrivacyLaw, RecordsPrivacyLaw};
+ghost use Rattle.dp_session.specs.RunWays.{RunWaysLaw};
 ghost use Rattle.dp_session.specs.PrivacyEdges.{EdgeLaw};
 
-/// The number of draw lists of a run that give a list of replies is the product of the numbers of each query, where
-/// replies are the same exactly where they are equal.
+/// The number of draw lists of a run that give a list of replies is the product of the ways of its accepted asks. It
+/// is 0 where there are not as many replies as queries, where the reply to a refused query is not its refusal or that
+/// to an open not that a child was opened, and where an accepted ask has such a reply. The test of equality of replies
+/// tells equal ones from different ones.
 pub fn ways_law()
     ensures same { SameReplyLaw }
     ensures product { RunWaysLaw }
 {}
 
-/// The accepted queries of any lines were admitted one after the other, no child has an odometer, and on records within
-/// an accepted pipeline's distance the values of each node are within the node's.
+/// The accepted queries of any lines were admitted one after the other, and no child has an odometer. On records or
+/// data texts within an accepted pipeline's distance the values of each node are within the node's.
 pub fn nodes_law()
     ensures history { HistoryLaw }
     ensures values { NodeValuesLaw }
+    ensures text_values { TextValuesLaw }
 {}
 
 /// For every accepted pipeline, all data texts within its distance, all lists of queries and all lists of replies, the
-/// numbers of draw lists that give the replies keep the ratio at the units that the queries spend. It is so too of all
-/// records of the pipeline's columns within its distance, whatever text they come from.
+/// numbers of draw lists that give the replies keep the ratio at the units that the queries spend. So do those of all
+/// records of the pipeline's columns within its distance.
 pub fn privacy_law()
     ensures texts { PrivacyLaw }
     ensures records { RecordsPrivacyLaw }
@@ -39,6 +44,7 @@ mod tests {
         ensures product { RunWaysLaw }
         ensures history { HistoryLaw }
         ensures values { NodeValuesLaw }
+        ensures text_values { TextValuesLaw }
         ensures texts { PrivacyLaw }
         ensures records { RecordsPrivacyLaw }
         ensures edge { EdgeLaw }

@@ -1,5 +1,5 @@
 use Rattle.dp_session.proofs.Histories.{past-accepted, past-declares}
-use Rattle.dp_session.proofs.Privacy.{node-values}
+use Rattle.dp_session.proofs.Privacy.{node-values, text-values}
 use Rattle.dp_session.proofs.laws.nodes_law.Goals as goal
 
 pub returns-clause-history : goal.returns-clause-history
@@ -7,3 +7,6 @@ returns-clause-history c = λ pipeline past. (past-accepted pipeline past, past-
 
 pub returns-clause-values : goal.returns-clause-values
 returns-clause-values c = node-values
+
+pub returns-clause-text_values : goal.returns-clause-text_values
+returns-clause-text_values c = text-values
