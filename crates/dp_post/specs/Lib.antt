@@ -1,0 +1,4 @@
+pub mod Posted
+pub mod PostedLaw
+pub mod PostedProof
+pub mod Posts
