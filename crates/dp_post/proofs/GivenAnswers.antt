@@ -20,15 +20,17 @@ module _ {E : Type 0} (same : E → E → Bool) (told : (x y : E) → Decides (s
   any-first x y ys true e h = refl
   any-first x y ys false e h = h
 
-  -- the members of a list, each once, are its members
-  any-kept : (x y : E) (ys : List E) (found : Bool) → list_any (same y) ys ≡ found → list_any (same x) (distinct same ys) ≡ list_any (same x) ys →
+  any-kept : (x y : E) (ys : List E) (found : Bool) → list_any (same y) ys ≡ found →
+      list_any (same x) (distinct same ys) ≡ list_any (same x) ys →
       list_any (same x) (cond found (distinct same ys) (y ∷ distinct same ys)) ≡ (same x y || list_any (same x) ys)
   any-kept x y ys false f e = ap (λ b. same x y || b) e
   any-kept x y ys true f e = elim (cases_Bool (same x y)) [
-    | inl k ↦ let at : list_any (same x) ys ≡ true = ap (λ z. list_any (same z) ys) ((told x y).0 k) ∙ f in e ∙ at ∙ ap (λ b. b || list_any (same x) ys) (sym k)
+    | inl k ↦ let at : list_any (same x) ys ≡ true = ap (λ z. list_any (same z) ys) ((told x y).0 k) ∙ f in
+        e ∙ at ∙ ap (λ b. b || list_any (same x) ys) (sym k)
     | inr k ↦ e ∙ ap (λ b. b || list_any (same x) ys) (sym k)
   ]
 
+  -- the members of a list, each once, are its members
   pub any-distinct : (x : E) (xs : List E) → list_any (same x) (distinct same xs) ≡ list_any (same x) xs
   unfolding distinct
   any-distinct x [] = refl
@@ -50,11 +52,13 @@ module _ {E : Type 0} (same : E → E → Bool) (told : (x y : E) → Decides (s
       both-false false = refl
   any-filter test x (y ∷ ys) = by (test y) refl (same x y) refl (any-filter test x ys)
     where
-      by : (t : Bool) → test y ≡ t → (s : Bool) → same x y ≡ s → list_any (same x) (filter test ys) ≡ (test x && list_any (same x) ys) →
+      by : (t : Bool) → test y ≡ t → (s : Bool) → same x y ≡ s →
+          list_any (same x) (filter test ys) ≡ (test x && list_any (same x) ys) →
           list_any (same x) (cond t (y ∷ filter test ys) (filter test ys)) ≡ (test x && (s || list_any (same x) ys))
       by true t true s ih = let at : test x ≡ true = ap test ((told x y).0 s) ∙ t in rw (s, at) refl
       by true t false s ih = rw s ih
-      by false t true s ih = let at : test x ≡ false = ap test ((told x y).0 s) ∙ t in rw at (ih ∙ ap (λ b. b && list_any (same x) ys) at)
+      by false t true s ih = let at : test x ≡ false = ap test ((told x y).0 s) ∙ t in
+          rw at (ih ∙ ap (λ b. b && list_any (same x) ys) at)
       by false t false s ih = ih
 
   none-same : (x : E) (xs : List E) → list_any (same x) xs ≡ false → AllByRecursion (λ y. same x y ≡ false) xs
@@ -121,19 +125,24 @@ module _ {E : Type 0} (same : E → E → Bool) (told : (x y : E) → Decides (s
   abbrev values : List ℕ → (List ℕ → E) → List E
   values shape out = distinct same (map out (draw_lists shape))
 
-  value-any : (shape : List ℕ) (out : List ℕ → E) (d : List ℕ) → IsDrawList shape d → list_any (same (out d)) (values shape out) ≡ true
+  value-any : (shape : List ℕ) (out : List ℕ → E) (d : List ℕ) → IsDrawList shape d →
+      list_any (same (out d)) (values shape out) ≡ true
   value-any shape out d h =
       let m = member-from_draws shape d h in
       any-distinct (out d) (map out (draw_lists shape)) ∙ any-map (out d) out (draw_lists shape)
       ∙ list_any-from_Any (λ e. same (out d) (out e)) (draw_lists shape) (m.0, d, m.1, m.2, (told (out d) (out d)).1 refl)
 
-  pub value-there : (shape : List ℕ) (out : List ℕ → E) (x : E) → (draws : List ℕ) × IsDrawList shape draws × (out draws ≡ x) → Contains (values shape out) x
+  pub value-there : (shape : List ℕ) (out : List ℕ → E) (x : E) →
+      (draws : List ℕ) × IsDrawList shape draws × (out draws ≡ x) → Contains (values shape out) x
   value-there shape out x h =
-      Contains-from_any (values shape out) x (subst (λ y. list_any (same y) (values shape out) ≡ true) h.2 (value-any shape out h.0 h.1))
+      Contains-from_any (values shape out) x
+      (subst (λ y. list_any (same y) (values shape out) ≡ true) h.2 (value-any shape out h.0 h.1))
 
-  pub value-given : (shape : List ℕ) (out : List ℕ → E) (x : E) → Contains (values shape out) x → (draws : List ℕ) × IsDrawList shape draws × (out draws ≡ x)
+  pub value-given : (shape : List ℕ) (out : List ℕ → E) (x : E) → Contains (values shape out) x →
+      (draws : List ℕ) × IsDrawList shape draws × (out draws ≡ x)
   value-given shape out x h =
-      let any = sym (any-map x out (draw_lists shape)) ∙ sym (any-distinct x (map out (draw_lists shape))) ∙ any-from_Contains (values shape out) x h in
+      let any = sym (any-map x out (draw_lists shape)) ∙ sym (any-distinct x (map out (draw_lists shape)))
+      ∙ any-from_Contains (values shape out) x h in
       let found = Any-from_list_any (λ d. same x (out d)) (draw_lists shape) any in
       (found.1, draws-from_member shape found.1 (found.0, found.2, found.3), sym ((told x (out found.1)).0 found.4))
 
@@ -146,16 +155,22 @@ module _ {E : Type 0} (same : E → E → Bool) (told : (x y : E) → Decides (s
   pub count-values : (shape : List ℕ) (out : List ℕ → E) (test : E → Bool) →
       count shape (λ d. test (out d)) ≡ sum_by (λ x. count shape (λ d. same (out d) x)) (filter test (values shape out))
   count-values shape out test =
-      set-law same shape out test (filter test (values shape out)) (apart-filter test (values shape out) (apart-distinct (map out (draw_lists shape))))
-      (λ d h. covers (test (out d)) (list_any (same (out d)) (values shape out)) (value-any shape out d h) ∙ sym (any-filter test (out d) (values shape out)))
+      let all = values shape out in
+      set-law same shape out test (filter test all) (apart-filter test all (apart-distinct (map out (draw_lists shape))))
+      (λ d h. covers (test (out d)) (list_any (same (out d)) all) (value-any shape out d h) ∙ sym (any-filter test (out d) all))
 
 pub given : GivenLaw
 unfolding given_answers
-given m v answer = (value-given same_answer same_answer-decides m.shape (m.function v) answer, value-there same_answer same_answer-decides m.shape (m.function v) answer)
+given m v answer = (
+  value-given same_answer same_answer-decides m.shape (m.function v) answer,
+  value-there same_answer same_answer-decides m.shape (m.function v) answer,
+)
 
 pub given-once : GivenOnceLaw
 unfolding given_answers
-given-once m v = AllPairs-from_IsDistinct same_answer-decides (given_answers m v) (distinct-once same_answer same_answer-decides (map (m.function v) (draw_lists m.shape)))
+given-once m v =
+    AllPairs-from_IsDistinct same_answer-decides (given_answers m v)
+    (distinct-once same_answer same_answer-decides (map (m.function v) (draw_lists m.shape)))
 
 pub changed-ways : ChangedWaysLaw
 unfolding ways given_answers

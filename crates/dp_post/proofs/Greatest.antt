@@ -34,11 +34,14 @@ at-least x y h = grind (arith, ints)
 -- a number that is first among the greatest stands there
 pub greatest-place : (xs : List ℤ) (b : ℕ) → IsFirstBest is_greater xs (length xs) b → b ≡ first_greatest xs
 greatest-place xs b h =
+    let cell : ℕ → ℤ = λ k. get_or xs k (pos 0) in
     let inside : b < length xs = h.0 in
     let place : first_greatest xs ≡ b = position_or_len_is (is_greatest xs) xs b (pos 0) (omega arith)
-    (λ k below. list_all_at (λ other. int_le other (get_or xs k (pos 0))) xs b (pos 0) inside (past-greater (get_or xs b (pos 0)) (get_or xs k (pos 0)) (h.2 k (pos 0) below)))
-    (λ here. list_all-from_AllPass (λ other. int_le other (get_or xs b (pos 0))) xs
-    (λ k d below. ap (λ y. int_le (get_or xs k d) y) (get_or_default xs b (pos 0) d inside) ∙ at-least (get_or xs k d) (get_or xs b d) (h.1 k d below))) in
+    (λ k below. list_all_at (λ other. int_le other (cell k)) xs b (pos 0) inside (past-greater (cell b) (cell k) (h.2 k (pos 0) below)))
+    (λ here. list_all-from_AllPass (λ other. int_le other (cell b)) xs
+    (λ k d below.
+    ap (λ y. int_le (get_or xs k d) y) (get_or_default xs b (pos 0) d inside)
+    ∙ at-least (get_or xs k d) (get_or xs b d) (h.1 k d below))) in
     sym place
 
 -- four cells, and two that are equal

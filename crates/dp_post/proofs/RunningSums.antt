@@ -14,12 +14,14 @@ module _ {E : Type 0} (f : E → E → E) where
   scan-first s [] d h = absurd (omega arith)
   scan-first s (x ∷ xs) d h = refl
 
-  scan-suc : (s : E) (xs : List E) (k : ℕ) (d : E) → suc k < length xs → get_or (scan f f s xs) (suc k) d ≡ f (get_or (scan f f s xs) k d) (get_or xs (suc k) d)
+  scan-suc : (s : E) (xs : List E) (k : ℕ) (d : E) → suc k < length xs →
+      get_or (scan f f s xs) (suc k) d ≡ f (get_or (scan f f s xs) k d) (get_or xs (suc k) d)
   scan-suc s [] k d h = absurd (omega arith)
   scan-suc s (x ∷ xs) zero d h = scan-first (f s x) xs d (omega arith)
   scan-suc s (x ∷ xs) (suc k) d h = scan-suc (f s x) xs k d (omega arith)
 
-  pub scan-next : (s : E) (xs : List E) (k : ℕ) (d : E) → k + 1 < length xs → get_or (scan f f s xs) (k + 1) d ≡ f (get_or (scan f f s xs) k d) (get_or xs (k + 1) d)
+  pub scan-next : (s : E) (xs : List E) (k : ℕ) (d : E) → k + 1 < length xs →
+      get_or (scan f f s xs) (k + 1) d ≡ f (get_or (scan f f s xs) k d) (get_or xs (k + 1) d)
   scan-next s xs k d h = rw (add-one k) (scan-suc s xs k d (omega arith))
 
 first-sum : (cell : ℤ) → pos 0 +ℤ cell ≡ cell

@@ -10,7 +10,8 @@ use Rattle.dp_post.specs.declared.post.Post.{Post}
 use Rattle.dp_post.specs.Posted.{changed_by}
 use Rattle.dp_post.specs.Posts.{posted, posted_piece}
 
-pub changed_law : (change : List Piece → List Piece) (m : Mechanism) → ((answer : List Piece) → length (change answer) ≡ length answer) →
+pub changed_law : (change : List Piece → List Piece) (m : Mechanism) →
+    ((answer : List Piece) → length (change answer) ≡ length answer) →
     IsPrivate m → IsPrivate (changed_by change m)
 unfolding ways
 changed_law change m kept law = record {

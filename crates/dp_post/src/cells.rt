@@ -1,4 +1,4 @@
-ghost use Rattle.std.specs.Prelude.{◌≡◌, ◌≤◌, ◌<◌, length, map, min, ◌-◌, ◌^◌};
+ghost use Rattle.std.specs.Prelude.{◌≡◌, ◌-◌, ◌^◌, map, min};
 ghost use Rattle.dp_post.specs.Posts.{clipped_sum, running_sums, floored, first_greatest};
 
 use dp_domain::clamped;

@@ -1,6 +1,5 @@
 ghost use Rattle.std.specs.Prelude.{◌≡◌, map};
 ghost use Rattle.dp_post.specs.Posts.{running_sums, floored, changed_piece, posted_piece, posted};
-ghost use Rattle.dp_law.specs.declared.pieces.Piece.TheVariants as piece;
 
 use crate::cells::{cumulate, floor, floored, largest};
 use dp_count::Items;
