@@ -16,18 +16,23 @@ use Rattle.dp_session.proofs.Standing.{judge-number, newest-le, no-events, event
 use Rattle.dp_session.proofs.Verdicts.{IsAsk, IsOpen, ask-or-open}
 
 -- the node at a place is there
-pub place-node : (o : Option Node) (at : PlaceValue) → option_map (λ (node : Node). place_of node.seat) o ≡ Some at → (node : Node) × (o ≡ Some node) × (at ≡ place_of node.seat)
+pub place-node : (o : Option Node) (at : PlaceValue) → option_map (λ (node : Node). place_of node.seat) o ≡ Some at
+    → (node : Node) × (o ≡ Some node) × (at ≡ place_of node.seat)
 place-node None at h = absurd cc
 place-node (Some node) at h = (node, refl, cc)
 
 -- where a child may sit, its distance is no less than the mapped one, and its total is within the node's budget
-seated : (deep near : Bool) (mapped : ℕ) (over : Option Over) → cond deep (Some seats.Depth) (cond near (Some (seats.ChildDistance mapped)) (option_map seats.Over over)) ≡ None → (near ≡ false) × (over ≡ None)
+seated : (deep near : Bool) (mapped : ℕ) (over : Option Over)
+    → cond deep (Some seats.Depth) (cond near (Some (seats.ChildDistance mapped)) (option_map seats.Over over)) ≡ None
+    → (near ≡ false) × (over ≡ None)
 seated true near mapped over h = absurd cc
 seated false true mapped over h = absurd cc
 seated false false mapped None h = (refl, refl)
 seated false false mapped (Some over) h = absurd cc
 
-pub seat-admits : (root : Seat) (past : List Event) (i distance mapped : ℕ) (rule : Rule) (node : Node) → node_at root past i ≡ Some node → seat_fault root past i distance mapped rule ≡ None → (mapped ≤ distance) × (over_at root past i (total rule) ≡ None)
+pub seat-admits : (root : Seat) (past : List Event) (i distance mapped : ℕ) (rule : Rule) (node : Node)
+    → node_at root past i ≡ Some node → seat_fault root past i distance mapped rule ≡ None
+    → (mapped ≤ distance) × (over_at root past i (total rule) ≡ None)
 seat-admits root past i distance mapped rule node at free =
     let here : seat_refusal node.depth (account past i node.seat.rule) distance mapped rule ≡ None = rw at at free in
     let both = seated (eqb node.depth 16) (ltb distance mapped) mapped (refusal (account past i node.seat.rule) (total rule)) here in
@@ -36,14 +41,16 @@ seat-admits root past i distance mapped rule node at free =
 
 -- ---- each query was admitted
 
-admitted-ask : (pipeline : Content) (past : List (List ℕ)) (line : List ℕ) (grant : Grant) → IsAsk pipeline past line grant →
+admitted-ask : (pipeline : Content) (past : List (List ℕ)) (line : List ℕ) (grant : Grant)
+    → IsAsk pipeline past line grant →
     (is_some (node_at (root_seat pipeline) (past_events pipeline past) (node_of grant.event)) ≡ true) × (over_at (root_seat pipeline) (past_events pipeline past) (node_of grant.event) (cost_of grant.event) ≡ None)
 admitted-ask pipeline past line grant is =
     let a = is.asked in
     let node = place-node (node_at (root_seat pipeline) (past_events pipeline past) is.node) a.at a.place in
     rw a.grant_is (rw node.1 refl, a.within)
 
-admitted-open : (pipeline : Content) (past : List (List ℕ)) (line : List ℕ) (grant : Grant) → IsOpen pipeline past line grant →
+admitted-open : (pipeline : Content) (past : List (List ℕ)) (line : List ℕ) (grant : Grant)
+    → IsOpen pipeline past line grant →
     (is_some (node_at (root_seat pipeline) (past_events pipeline past) (node_of grant.event)) ≡ true) × (over_at (root_seat pipeline) (past_events pipeline past) (node_of grant.event) (cost_of grant.event) ≡ None)
 admitted-open pipeline past line grant is =
     let o = is.opened in
@@ -51,11 +58,13 @@ admitted-open pipeline past line grant is =
     rw o.grant_is (rw node.1 refl, (seat-admits (root_seat pipeline) (past_events pipeline past) is.node is.distance o.mapped is.budget.rule node.0 node.1 o.seated).1)
 
 -- the queries of any lines could be accepted one after the other
-pub past-accepted : (pipeline : Content) (past : List (List ℕ)) → Accepted (root_seat pipeline) (past_events pipeline past)
+pub past-accepted : (pipeline : Content) (past : List (List ℕ))
+    → Accepted (root_seat pipeline) (past_events pipeline past)
 past-accepted pipeline [] = rw (no-events pipeline) tt
 past-accepted pipeline (line ∷ past) = go (past-accepted pipeline past) (verdict pipeline past line) refl
   where
-    go : Accepted (root_seat pipeline) (past_events pipeline past) → (v : Result Grant Refusal) → verdict pipeline past line ≡ v → Accepted (root_seat pipeline) (past_events pipeline (line ∷ past))
+    go : Accepted (root_seat pipeline) (past_events pipeline past) → (v : Result Grant Refusal)
+        → verdict pipeline past line ≡ v → Accepted (root_seat pipeline) (past_events pipeline (line ∷ past))
     go known (Err refused) e = rw (events-more pipeline past line (Err refused) e) known
     go known (Ok grant) e =
         let number = judge-number _ _ (length past + 1) _ grant e in
@@ -72,7 +81,8 @@ pub past-declares : (pipeline : Content) (past : List (List ℕ)) → DeclaresAl
 past-declares pipeline [] = rw (no-events pipeline) tt
 past-declares pipeline (line ∷ past) = go (past-declares pipeline past) (verdict pipeline past line) refl
   where
-    go : DeclaresAll (past_events pipeline past) → (v : Result Grant Refusal) → verdict pipeline past line ≡ v → DeclaresAll (past_events pipeline (line ∷ past))
+    go : DeclaresAll (past_events pipeline past) → (v : Result Grant Refusal) → verdict pipeline past line ≡ v
+        → DeclaresAll (past_events pipeline (line ∷ past))
     go known (Err refused) e = rw (events-more pipeline past line (Err refused) e) known
     go known (Ok grant) e =
         rw (events-more pipeline past line (Ok grant) e)

@@ -34,12 +34,16 @@ pub record AreClose (node : Node) (v w : Value) : Type 0 where
 
 -- ---- the root
 
-user-near : (user : Option ℕ) (xs ys : List (List (List ℕ))) (d : ℕ) → distance user xs ys ≤ d → Within (user_metric user) d (value.Rows xs) (value.Rows ys)
+user-near : (user : Option ℕ) (xs ys : List (List (List ℕ))) (d : ℕ) → distance user xs ys ≤ d
+    → Within (user_metric user) d (value.Rows xs) (value.Rows ys)
 user-near None xs ys d h = h
 user-near (Some column) xs ys d h = h
 
-pub root-close : (pipeline : Content) (xs ys : List (List (List ℕ))) → (1 ≤ length pipeline.columns) × (length pipeline.columns ≤ 64) → Has (root_domain pipeline) (value.Rows xs) → Has (root_domain pipeline) (value.Rows ys) →
-    distance pipeline.user xs ys ≤ pipeline.distance → AreClose (root_node (root_seat pipeline)) (value.Rows xs) (value.Rows ys)
+pub root-close : (pipeline : Content) (xs ys : List (List (List ℕ)))
+    → (1 ≤ length pipeline.columns) × (length pipeline.columns ≤ 64) → Has (root_domain pipeline) (value.Rows xs)
+    → Has (root_domain pipeline) (value.Rows ys) →
+    distance pipeline.user xs ys ≤ pipeline.distance
+    → AreClose (root_node (root_seat pipeline)) (value.Rows xs) (value.Rows ys)
 root-close pipeline xs ys few one other near = record {
   fits = few;
   one = one;
@@ -49,8 +53,10 @@ root-close pipeline xs ys few one other near = record {
 
 -- ---- a child
 
-line-close : (stages : List Stage) (n : ℕ) (above : Node) (line : Mapping) (mapped distance : ℕ) (budget : BudgetValue) (v w : Value) → AreClose above v w → line_on stages above.seat.domain above.seat.metric ≡ Ok line →
-    line.stability_map above.seat.distance ≡ Some mapped → mapped ≤ distance → AreClose (child n (given line.output_domain line.output_metric distance budget) above) (line.function v) (line.function w)
+line-close : (stages : List Stage) (n : ℕ) (above : Node) (line : Mapping) (mapped distance : ℕ) (budget : BudgetValue) (v w : Value)
+    → AreClose above v w → line_on stages above.seat.domain above.seat.metric ≡ Ok line →
+    line.stability_map above.seat.distance ≡ Some mapped → mapped ≤ distance
+    → AreClose (child n (given line.output_domain line.output_metric distance budget) above) (line.function v) (line.function w)
 line-close stages n above line mapped distance budget v w close made maps enough =
     let law = line-law stages above.seat.domain above.seat.metric line close.fits made in
     let one : Has line.input_domain v = subst (λ (d : Domain). Has d v) (sym law.input_domain) close.one in
@@ -74,11 +80,13 @@ abbrev CloseAfter : Content → List (List ℕ) → Value → Value → Grant �
 CloseAfter pipeline past v w grant = (i : ℕ) (node : Node) → node_at (root_seat pipeline) (grant.event ∷ past_events pipeline past) i ≡ Some node →
     AreClose node (value_after grant.task grant.event (λ j. value_at v (granted pipeline past) j) i) (value_after grant.task grant.event (λ j. value_at w (granted pipeline past) j) i)
 
-ask-close : (pipeline : Content) (past : List (List ℕ)) (line : List ℕ) (v w : Value) (grant : Grant) → AllClose pipeline past v w → IsAsk pipeline past line grant → CloseAfter pipeline past v w grant
+ask-close : (pipeline : Content) (past : List (List ℕ)) (line : List ℕ) (v w : Value) (grant : Grant)
+    → AllClose pipeline past v w → IsAsk pipeline past line grant → CloseAfter pipeline past v w grant
 ask-close pipeline past line v w grant before is =
     subst (CloseAfter pipeline past v w) (sym is.asked.grant_is) (λ i node at. before i node at)
 
-open-close : (pipeline : Content) (past : List (List ℕ)) (line : List ℕ) (v w : Value) (grant : Grant) → AllClose pipeline past v w → IsOpen pipeline past line grant → CloseAfter pipeline past v w grant
+open-close : (pipeline : Content) (past : List (List ℕ)) (line : List ℕ) (v w : Value) (grant : Grant)
+    → AllClose pipeline past v w → IsOpen pipeline past line grant → CloseAfter pipeline past v w grant
 open-close pipeline past line v w grant before is =
     let o = is.opened in
     let root = root_seat pipeline in
@@ -97,7 +105,8 @@ open-close pipeline past line v w grant before is =
       | inr k ↦ rw k.0 (before i node k.1)
     ])
 
-none-close : (pipeline : Content) (v w : Value) → AreClose (root_node (root_seat pipeline)) v w → AllClose pipeline [] v w
+none-close : (pipeline : Content) (v w : Value) → AreClose (root_node (root_seat pipeline)) v w
+    → AllClose pipeline [] v w
 unfolding granted value_at
 none-close pipeline v w close i node at =
     elim (chosen (eqb i 0) (Some (root_node (root_seat pipeline))) None node at) [
@@ -105,11 +114,13 @@ none-close pipeline v w close i node at =
       | inr k ↦ absurd (let e = k.1 in cc)
     ]
 
-more-close : (pipeline : Content) (past : List (List ℕ)) (line : List ℕ) (v w : Value) → AllClose pipeline past v w → AllClose pipeline (line ∷ past) v w
+more-close : (pipeline : Content) (past : List (List ℕ)) (line : List ℕ) (v w : Value) → AllClose pipeline past v w
+    → AllClose pipeline (line ∷ past) v w
 unfolding granted value_at
 more-close pipeline past line v w before = go (verdict pipeline past line) refl
   where
-    go : (r : Result Grant Refusal) → verdict pipeline past line ≡ r → (i : ℕ) (node : Node) → node_at (root_seat pipeline) (events (with_verdict r (granted pipeline past))) i ≡ Some node →
+    go : (r : Result Grant Refusal) → verdict pipeline past line ≡ r → (i : ℕ) (node : Node)
+        → node_at (root_seat pipeline) (events (with_verdict r (granted pipeline past))) i ≡ Some node →
         AreClose node (value_at v (with_verdict r (granted pipeline past)) i) (value_at w (with_verdict r (granted pipeline past)) i)
     go (Err refused) e = before
     go (Ok grant) e = elim (ask-or-open pipeline past line grant e) [
@@ -118,6 +129,7 @@ more-close pipeline past line v w before = go (verdict pipeline past line) refl
     ]
 
 -- the two values of each node, after any lines
-pub values-close : (pipeline : Content) (v w : Value) → AreClose (root_node (root_seat pipeline)) v w → (past : List (List ℕ)) → AllClose pipeline past v w
+pub values-close : (pipeline : Content) (v w : Value) → AreClose (root_node (root_seat pipeline)) v w
+    → (past : List (List ℕ)) → AllClose pipeline past v w
 values-close pipeline v w close [] = none-close pipeline v w close
 values-close pipeline v w close (line ∷ past) = more-close pipeline past line v w (values-close pipeline v w close past)

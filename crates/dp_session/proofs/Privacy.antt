@@ -55,17 +55,20 @@ abbrev pub losses : Content → List (List ℕ) → List (List ℕ) → List ℕ
 losses pipeline past [] = []
 losses pipeline past (line ∷ lines) = loss_of (verdict pipeline past line) ∷ losses pipeline (line ∷ past) lines
 
-one-more : (pipeline : Content) (past : List (List ℕ)) (line : List ℕ) → all_losses (past_events pipeline (line ∷ past)) ≡ loss_of (verdict pipeline past line) + all_losses (past_events pipeline past)
+one-more : (pipeline : Content) (past : List (List ℕ)) (line : List ℕ)
+    → all_losses (past_events pipeline (line ∷ past)) ≡ loss_of (verdict pipeline past line) + all_losses (past_events pipeline past)
 one-more pipeline past line = go (verdict pipeline past line) refl
   where
-    go : (r : Result Grant Refusal) → verdict pipeline past line ≡ r → all_losses (past_events pipeline (line ∷ past)) ≡ loss_of r + all_losses (past_events pipeline past)
+    go : (r : Result Grant Refusal) → verdict pipeline past line ≡ r
+        → all_losses (past_events pipeline (line ∷ past)) ≡ loss_of r + all_losses (past_events pipeline past)
     go (Err refused) e = rw (events-more pipeline past line (Err refused) e) (omega arith)
     go (Ok grant) e = rw (events-more pipeline past line (Ok grant) e) (sum_by-cons ask_cost grant.event (past_events pipeline past))
 
 reversed : (line : List ℕ) (lines past : List (List ℕ)) → reverse (line ∷ lines) ++ past ≡ reverse lines ++ line ∷ past
 reversed line lines past = ap (λ (ls : List (List ℕ)). ls ++ past) (reverse-append (line ∷ []) lines) ∙ append_assoc (reverse lines) (line ∷ []) past
 
-losses-after : (pipeline : Content) (past lines : List (List ℕ)) → sum (losses pipeline past lines) + all_losses (past_events pipeline past) ≡ all_losses (past_events pipeline (reverse lines ++ past))
+losses-after : (pipeline : Content) (past lines : List (List ℕ))
+    → sum (losses pipeline past lines) + all_losses (past_events pipeline past) ≡ all_losses (past_events pipeline (reverse lines ++ past))
 losses-after pipeline past [] = omega arith
 losses-after pipeline past (line ∷ lines) =
     let ih = losses-after pipeline (line ∷ past) lines in
@@ -98,8 +101,10 @@ few-bounds n h =
     let both = and_parts (nat_le 1 n) (nat_le n 16) h in (grind (arith, nat_tests, both), grind (arith, nat_tests, both))
 
 -- of a release
-release-keeps : (ratio : Fraction) (release : Mechanism) (k : ℕ) (v w : Value) → ratio.p ≤ ratio.q → ((answer : List Piece) → KeepsRatio ratio.p ratio.q k (ways release v answer) (ways release w answer)) →
-    (reply : Reply) → KeepsRatio ratio.p ratio.q k (count release.shape (λ draws. same_reply (Answered (release.function v draws)) reply)) (count release.shape (λ draws. same_reply (Answered (release.function w draws)) reply))
+release-keeps : (ratio : Fraction) (release : Mechanism) (k : ℕ) (v w : Value) → ratio.p ≤ ratio.q
+    → ((answer : List Piece) → KeepsRatio ratio.p ratio.q k (ways release v answer) (ways release w answer)) →
+    (reply : Reply)
+    → KeepsRatio ratio.p ratio.q k (count release.shape (λ draws. same_reply (Answered (release.function v draws)) reply)) (count release.shape (λ draws. same_reply (Answered (release.function w draws)) reply))
 unfolding ways
 release-keeps ratio release k v w below law (Answered answer) = law answer
 release-keeps ratio release k v w below law (Refused refused) = ratio-more ratio.p ratio.q 0 k _ _ below (omega arith) (ratio-same ratio.p ratio.q (count release.shape (λ draws. false)))
@@ -113,7 +118,9 @@ pub record IsUsable (pipeline : Content) : Type 0 where
 below : (p q : ℕ) → is_ratio p q ≡ true → p ≤ q
 below p q h = grind (arith, nat_tests)
 
-ask-keeps : (pipeline : Content) (past : List (List ℕ)) (line : List ℕ) (v w : Value) (grant : Grant) → IsUsable pipeline → AllClose pipeline past v w → IsAsk pipeline past line grant → KeepsAt pipeline past v w (Ok grant)
+ask-keeps : (pipeline : Content) (past : List (List ℕ)) (line : List ℕ) (v w : Value) (grant : Grant)
+    → IsUsable pipeline → AllClose pipeline past v w → IsAsk pipeline past line grant
+    → KeepsAt pipeline past v w (Ok grant)
 ask-keeps pipeline past line v w grant usable close is =
     let a = is.asked in
     let ratio = ratio_of pipeline in
@@ -135,12 +142,14 @@ ask-keeps pipeline past line v w grant usable close is =
     subst (λ (g : Grant). KeepsAt pipeline past v w (Ok g)) (sym a.grant_is)
     (release-keeps ratio a.release a.cost vs ws (below pipeline.p pipeline.q usable.ratio) keeps)
 
-open-keeps : (pipeline : Content) (past : List (List ℕ)) (line : List ℕ) (v w : Value) (grant : Grant) → IsOpen pipeline past line grant → KeepsAt pipeline past v w (Ok grant)
+open-keeps : (pipeline : Content) (past : List (List ℕ)) (line : List ℕ) (v w : Value) (grant : Grant)
+    → IsOpen pipeline past line grant → KeepsAt pipeline past v w (Ok grant)
 open-keeps pipeline past line v w grant is =
     subst (λ (g : Grant). KeepsAt pipeline past v w (Ok g)) (sym is.opened.grant_is) (λ reply. ratio-same pipeline.p pipeline.q _)
 
 -- the numbers of draw lists of a query's replies keep the ratio at what it loses
-pub query-keeps : (pipeline : Content) (past : List (List ℕ)) (line : List ℕ) (v w : Value) → IsUsable pipeline → AllClose pipeline past v w → (reply : Reply) →
+pub query-keeps : (pipeline : Content) (past : List (List ℕ)) (line : List ℕ) (v w : Value) → IsUsable pipeline
+    → AllClose pipeline past v w → (reply : Reply) →
     KeepsRatio pipeline.p pipeline.q (loss_of (verdict pipeline past line)) (slot_ways same_reply (query_slot pipeline v past line) reply) (slot_ways same_reply (query_slot pipeline w past line) reply)
 query-keeps pipeline past line v w usable close = go (verdict pipeline past line) refl
   where
@@ -153,7 +162,8 @@ query-keeps pipeline past line v w usable close = go (verdict pipeline past line
 
 -- ---- runs
 
-slots-keep : (pipeline : Content) (v w : Value) → IsUsable pipeline → ((past : List (List ℕ)) → AllClose pipeline past v w) → (past lines : List (List ℕ)) →
+slots-keep : (pipeline : Content) (v w : Value) → IsUsable pipeline
+    → ((past : List (List ℕ)) → AllClose pipeline past v w) → (past lines : List (List ℕ)) →
     SlotsKeepRatios same_reply pipeline.p pipeline.q (losses pipeline past lines) (query_slots pipeline v past lines) (query_slots pipeline w past lines)
 unfolding SlotsKeepRatios query_slots
 slots-keep pipeline v w usable close past [] = tt
@@ -161,7 +171,8 @@ slots-keep pipeline v w usable close past (line ∷ lines) =
     (query-keeps pipeline past line v w usable (close past), slots-keep pipeline v w usable close (line ∷ past) lines)
 
 -- the numbers of draw lists of a run's replies keep the ratio at its units
-pub run-keeps : (pipeline : Content) (v w : Value) → IsUsable pipeline → AreClose (root_node (root_seat pipeline)) v w → (lines : List (List ℕ)) (wanted : List Reply) →
+pub run-keeps : (pipeline : Content) (v w : Value) → IsUsable pipeline → AreClose (root_node (root_seat pipeline)) v w
+    → (lines : List (List ℕ)) (wanted : List Reply) →
     KeepsRatio pipeline.p pipeline.q (units pipeline lines) (run_ways pipeline v lines wanted) (run_ways pipeline w lines wanted)
 unfolding run_ways
 run-keeps pipeline v w usable close lines wanted =

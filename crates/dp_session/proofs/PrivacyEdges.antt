@@ -25,15 +25,18 @@ edge-apart : distance None [] one_record ≡ 1
 unfolding diff distinct
 edge-apart = refl
 
-edge-none : (line : List ℕ) → query_of counting line ≡ Some (query.Ask 0 counted) → none_ways line (answered (pos 0) ∷ []) ≡ 4
+edge-none : (line : List ℕ) → query_of counting line ≡ Some (query.Ask 0 counted)
+    → none_ways line (answered (pos 0) ∷ []) ≡ 4
 unfolding granted ask_on stages_on line_value line_map end_domain end_metric part_on parts_on releases.joined_shape joined_answer all_pieces total_loss stage_on noise_on powers run_ways query_slots value_at joined_shape replies count sum_below cell_out
 edge-none line h = rw h refl
 
-edge-one : (line : List ℕ) → query_of counting line ≡ Some (query.Ask 0 counted) → one_ways line (answered (pos 0) ∷ []) ≡ 2
+edge-one : (line : List ℕ) → query_of counting line ≡ Some (query.Ask 0 counted)
+    → one_ways line (answered (pos 0) ∷ []) ≡ 2
 unfolding granted ask_on stages_on line_value line_map end_domain end_metric part_on parts_on releases.joined_shape joined_answer all_pieces total_loss stage_on noise_on powers run_ways query_slots value_at joined_shape replies count sum_below cell_out
 edge-one line h = rw h refl
 
-edge-two : (line : List ℕ) → query_of counting line ≡ Some (query.Ask 0 counted) → none_ways line (answered (pos 0) ∷ answered (pos 0) ∷ []) ≡ 0
+edge-two : (line : List ℕ) → query_of counting line ≡ Some (query.Ask 0 counted)
+    → none_ways line (answered (pos 0) ∷ answered (pos 0) ∷ []) ≡ 0
 unfolding granted ask_on stages_on line_value line_map end_domain end_metric part_on parts_on releases.joined_shape joined_answer all_pieces total_loss stage_on noise_on powers run_ways query_slots value_at joined_shape replies count sum_below cell_out
 edge-two line h = rw h refl
 

@@ -19,7 +19,8 @@ pair a b c d =
 over-is : (a b : Over) → a.cost ≡ b.cost → a.left ≡ b.left → a ≡ b
 over-is a b c l = whole a.cost b.cost a.left b.left c l
   where
-    whole : (c d l m : ℕ) → c ≡ d → l ≡ m → ◌≡◌ {A = Over} (record { cost = c; left = l }) (record { cost = d; left = m })
+    whole : (c d l m : ℕ) → c ≡ d → l ≡ m
+        → ◌≡◌ {A = Over} (record { cost = c; left = l }) (record { cost = d; left = m })
     whole c d l m p q = cc
 
 pub same_refusal-decides : (x y : Refusal) → Decides (same_refusal x y) (x ≡ y)

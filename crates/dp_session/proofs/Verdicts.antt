@@ -31,10 +31,13 @@ pub record IsOpen (pipeline : Content) (past : List (List ℕ)) (line : List ℕ
   pub spells : query_of pipeline line ≡ Some (query.Open node stages distance budget)
   pub opened : Opened (past_nodes pipeline past) (length past + 1) node stages distance budget grant
 
-pub ask-or-open : (pipeline : Content) (past : List (List ℕ)) (line : List ℕ) (grant : Grant) → verdict pipeline past line ≡ Ok grant → IsAsk pipeline past line grant ⊎ IsOpen pipeline past line grant
+pub ask-or-open : (pipeline : Content) (past : List (List ℕ)) (line : List ℕ) (grant : Grant)
+    → verdict pipeline past line ≡ Ok grant → IsAsk pipeline past line grant ⊎ IsOpen pipeline past line grant
 ask-or-open pipeline past line grant h = go (query_of pipeline line) refl h
   where
-    go : (q : Option Query) → query_of pipeline line ≡ q → judge (ratio_of pipeline) (past_nodes pipeline past) (length past + 1) q ≡ Ok grant → IsAsk pipeline past line grant ⊎ IsOpen pipeline past line grant
+    go : (q : Option Query) → query_of pipeline line ≡ q
+        → judge (ratio_of pipeline) (past_nodes pipeline past) (length past + 1) q ≡ Ok grant
+        → IsAsk pipeline past line grant ⊎ IsOpen pipeline past line grant
     go None e h = absurd cc
     go (Some (query.Ask node spec)) e h = inl (record {
       node = node;

@@ -12,19 +12,22 @@ use Rattle.dp_session.specs.RunWays.{RunWaysLaw, task_ways, query_ways, ways_pro
 use Rattle.dp_session.specs.Runs.{Reply, Refused, Opened, Answered, same_reply, value_at, task_shape, task_reply, query_shape, query_reply, query_slots, run_ways}
 use Rattle.dp_session.specs.Verdicts.{Grant, Task, Release, Child, granted, verdict}
 
-task-count : (task : Task) (value : Value) (reply : Reply) → count (task_shape task) (λ draws. same_reply (task_reply task value draws) reply) ≡ task_ways task value reply
+task-count : (task : Task) (value : Value) (reply : Reply)
+    → count (task_shape task) (λ draws. same_reply (task_reply task value draws) reply) ≡ task_ways task value reply
 unfolding count ways
 task-count (Release release) value (Answered answer) = refl
 task-count (Release release) value (Refused refused) = count-never release.shape (λ draws. false) (λ d is. refl)
 task-count (Release release) value Opened = count-never release.shape (λ draws. false) (λ d is. refl)
 task-count (Child line) value reply = refl
 
-query-count : (r : Result Grant Refusal) (values : ℕ → Value) (reply : Reply) → count (query_shape r) (λ draws. same_reply (query_reply r values draws) reply) ≡ query_ways r values reply
+query-count : (r : Result Grant Refusal) (values : ℕ → Value) (reply : Reply)
+    → count (query_shape r) (λ draws. same_reply (query_reply r values draws) reply) ≡ query_ways r values reply
 unfolding count
 query-count (Ok grant) values reply = task-count grant.task (values _) reply
 query-count (Err refused) values reply = refl
 
-slots-product : (pipeline : Content) (root : Value) (past lines : List (List ℕ)) (wanted : List Reply) → product_of_ways same_reply (query_slots pipeline root past lines) wanted ≡ ways_product pipeline root past lines wanted
+slots-product : (pipeline : Content) (root : Value) (past lines : List (List ℕ)) (wanted : List Reply)
+    → product_of_ways same_reply (query_slots pipeline root past lines) wanted ≡ ways_product pipeline root past lines wanted
 unfolding product_of_ways query_slots ways_product
 slots-product pipeline root past [] [] = refl
 slots-product pipeline root past [] (reply ∷ wanted) = refl
