@@ -56,6 +56,15 @@ printf '{"version":1' >cut
 printf '{"version":1,"header":false,"ratio":[1,2],"distance":1,"root":["odometer"],"plans":{}}' >columnless
 printf '{"version":1,"columns":["sex"],"header":false,"ratio":[2,2],"distance":1,"root":["odometer"],"plans":{}}' >even
 truncate -s 1048577 lengthy
+cp "$here/examples/queries.txt" queries
+verdicts='1 admitted draws 13 cost 1 spent 1
+2 node cost 4 spent 5
+3 admitted draws 13 cost 1 spent 5
+4 refused 7 budget 20 15
+end 4 spent 5'
+{ head -n 1 queries; head -c 65537 /dev/zero | tr '\0' ' '; } >wide
+head -c 1048576 /dev/zero | tr '\0' '\n' >most
+{ cat most; echo; } >more
 
 # The statuses and their lines.
 case_of 'an answer' 0 'answer 3' '' '"$dp" count data draws 0 5'
@@ -82,6 +91,20 @@ case_of 'a folder as a pipeline' 4 '' 'dp: read fault' '"$dp" check folder'
 case_of 'stages for an output that is full' 5 '' 'dp: write fault' '"$dp" check census >/dev/full'
 case_of 'stages for a closed output' 5 '' 'dp: write fault' '"$dp" check census >&-'
 case_of 'a refusal for an error output that is full' 3 '' '' '"$dp" check cut 2>/dev/full'
+
+# Queries.
+case_of 'the verdicts of queries' 0 "$verdicts" '' '"$dp" account census queries'
+case_of 'queries on the standard input' 0 "$verdicts" '' '"$dp" account census - <queries'
+case_of 'queries in pieces' 0 "$verdicts" '' '{ head -c 30 queries; sleep 0.1; tail -c +31 queries | head -c 100; sleep 0.1; tail -c +131 queries; } | "$dp" account census -'
+case_of 'no queries' 0 'end 0 spent 0' '' '"$dp" account census /dev/null'
+case_of 'no file of queries' 2 '' 'dp: usage' '"$dp" account census'
+case_of 'a query line that is too long' 8 "${verdicts%%$'\n'*}" 'dp: query limit' '"$dp" account census wide'
+case_of 'as many query lines as there may be' 0 'end 1048576 spent 0' '' '"$dp" account census most >all; status=$?; tail -n 1 all; exit $status'
+case_of 'one query line too many' 8 '1048576 refused 1 malformed' 'dp: query limit' '"$dp" account census more >all; status=$?; tail -n 1 all; exit $status'
+case_of 'queries on a pipeline that is refused' 3 '' 'dp: pipeline refused 6' '"$dp" account cut missing'
+case_of 'missing queries' 4 '' 'dp: read fault' '"$dp" account census missing'
+case_of 'a folder as queries' 4 '' 'dp: read fault' '"$dp" account census folder'
+case_of 'verdicts for an output that is full' 5 '' 'dp: write fault' '"$dp" account census queries >/dev/full'
 
 # Files.
 case_of 'a missing file of records' 4 '' 'dp: read fault' '"$dp" count missing draws 0 5'

@@ -1,7 +1,7 @@
 -- The lines of a text, taken off one after another.
-use Rattle.std.proofs.Common.{◌≡◌, ℕ, zero, suc, ◌+◌, ◌<◌, ◌≤◌, true, false, ◌||◌, inl, inr, not, ◌==◌, List, [], ◌∷◌, length, take, nat_lt, refl, ap, ◌∙◌, arith}
-use Rattle.std.specs.List.{list_any, position_or_len, slice_split}
-use Rattle.std.proofs.lemmas.Bool.{cases_lt, cond-false, ne_eqb, lt-ltb, le-leb, lt-leb, or_right}
+use Rattle.std.proofs.Common.{◌≡◌, ℕ, zero, suc, ◌+◌, ◌<◌, ◌≤◌, Bool, true, false, ◌||◌, inl, inr, not, ◌==◌, List, [], ◌∷◌, length, take, nat_lt, refl, ap, ◌∙◌, arith}
+use Rattle.std.specs.List.{list_any, position_or_len, slice_split, take_while}
+use Rattle.std.proofs.lemmas.Bool.{cases_lt, cond-false, ne_eqb, lt-ltb, ltb-false, le-leb, lt-leb, or_parts, or_right}
 use Rattle.std.proofs.lemmas.Bool.Decides.{nat_tests}
 use Rattle.std.proofs.lemmas.List.{take_all, drop_all}
 use Rattle.std.proofs.lemmas.List.Sums.{fails_before_first, take_while-cons}
@@ -95,3 +95,21 @@ unfolding has_line_over
 over-long most text long =
     let unshort : is_short (first_line text) ≡ false = lt-leb _ _ long in
     rw (lines-first text (text-some text long), unshort) refl
+
+short-not : (short : Bool) → not short ≡ false → short ≡ true
+short-not true h = refl
+short-not false h = absurd cc
+
+take-while-all : (lines : List (List ℕ)) → list_any (λ line. not (is_short line)) lines ≡ false → take_while is_short lines ≡ lines
+take-while-all [] h = refl
+take-while-all (line ∷ lines) h =
+    let both : (not (is_short line) ≡ false) × (list_any (λ line. not (is_short line)) lines ≡ false) = or_parts _ _ h in
+    rw (take_while-cons is_short line lines, short-not (is_short line) both.0) (ap (λ rest. line ∷ rest) (take-while-all lines both.1))
+
+-- where no line is over, all lines are within
+pub within-all : (most : ℕ) (text : List ℕ) → has_line_over most text ≡ false → lines_within most text ≡ lines_of text
+unfolding lines_within has_line_over
+within-all most text none =
+    let both : (list_any (λ line. not (is_short line)) (lines_of text) ≡ false) × (nat_lt most (length (lines_of text)) ≡ false) = or_parts _ _ none in
+    let few : length (lines_of text) ≤ most = ltb-false _ _ both.1 in
+    rw (take_all most (lines_of text) few) (take-while-all (lines_of text) both.0)

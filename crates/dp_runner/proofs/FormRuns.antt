@@ -1,8 +1,10 @@
 -- A run of words of a form is a run of that form's command.
-use Rattle.std.proofs.Common.{◌≡◌, ℕ, List, Option, Some, Result, sym, subst}
+use Rattle.std.proofs.Common.{◌≡◌, ℕ, true, false, IsTrue, List, Option, Some, Result, sym, subst}
 use Rattle.dp_io.specs.Shelf.{Files}
 use Rattle.dp_runner.specs.declared.form.Form.{Form}
+use Rattle.dp_runner.specs.declared.form.Form.TheVariants as form
 use Rattle.dp_runner.specs.declared.stop.Stop.{Stop}
+use Rattle.dp_runner.specs.Account.{AccountForm}
 use Rattle.dp_runner.specs.Outcome.{Source}
 use Rattle.dp_runner.specs.Forms.{form_of, command_of, command_if, outcome}
 use Rattle.dp_runner.specs.Causes.{Runs}
@@ -15,6 +17,13 @@ pub of-form : (words : List (List ℕ)) (f : Form) (source : Source) (result : R
 of-form words f source result told before now old new last is h =
     subst (λ (o : Option Form). Runs result told (λ files. (command_if o).outcome files source) before now old new last)
     (sym is) h
+
+-- `account` writes before its end
+pub account-early : (words : List (List ℕ)) (account : AccountForm) → form_of words ≡ Some (form.Account account) → IsTrue (command_if (form_of words)).writes_last → ⊥
+account-early words account is last =
+    let writes_last : Option Form → Type 0 = λ o. IsTrue (command_if o).writes_last in
+    let false_is : false ≡ true = subst writes_last is last in
+    cc
 
 -- what nothing stops in the command, nothing stops in the run
 pub form-done : (words : List (List ℕ)) (f : Form) (files : Files) (source : Source) (bytes : List ℕ)

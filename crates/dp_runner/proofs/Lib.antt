@@ -1,3 +1,6 @@
+pub mod AccountRuns
+pub mod AccountSteps
+pub mod AccountTexts
 pub mod CheckRuns
 pub mod CountRuns
 pub mod CountSteps

@@ -1,7 +1,9 @@
--- The form of four words after `count`, of one word after `check`, and of any other number of words; and the form of a
+-- The form of four words after `count`, of two words after `account`, of one word after `check`, and of any other number
+-- of words; and the form of a
 -- first word and others.
 use Rattle.std.proofs.Common.{◌≡◌, ◌≢◌, ◌≤◌, ℕ, List, [], ◌∷◌, ◌-◌, length, take, drop, map, get_or, None, refl, arith, length-drop}
 use Rattle.std.proofs.lemmas.List.{take_all}
+use Rattle.dp_runner.specs.Account.{account_form, account_form_of}
 use Rattle.dp_runner.specs.Check.{check_form, check_form_of}
 use Rattle.dp_runner.specs.Count.{count_form, count_form_of}
 use Rattle.dp_runner.specs.Forms.{form_of, form_after}
@@ -33,6 +35,19 @@ unfolding check_form
 not_one-word bytes (w ∷ []) n = absurd (n refl)
 not_one-word bytes [] n = refl
 not_one-word bytes (w ∷ more ∷ rest) n = refl
+
+pub two-words : {W : Type 0} (bytes : W → List ℕ) (words : List W) (a b : W) → length words ≡ 2 → a ≡ get_or words 0 a → b ≡ get_or words 1 b
+    → account_form (map bytes words) ≡ account_form_of (bytes a) (bytes b)
+unfolding account_form
+two-words bytes (v ∷ w ∷ []) a b n ia ib = rw (ia, ib) refl
+two-words bytes _ a b n ia ib = absurd (omega arith)
+
+pub not_two-words : {W : Type 0} (bytes : W → List ℕ) (words : List W) → length words ≢ 2 → account_form (map bytes words) ≡ None
+unfolding account_form
+not_two-words bytes (v ∷ w ∷ []) n = absurd (n refl)
+not_two-words bytes [] n = refl
+not_two-words bytes (v ∷ []) n = refl
+not_two-words bytes (v ∷ w ∷ more ∷ rest) n = refl
 
 pub first-word : {W : Type 0} (bytes : W → List ℕ) (words : List W) (a : W) → 1 ≤ length words → a ≡ get_or words 0 a
     → form_of (map bytes words) ≡ form_after (bytes a) (map bytes (drop 1 words))

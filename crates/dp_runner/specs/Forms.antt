@@ -6,6 +6,7 @@ use Rattle.dp_runner.specs.declared.form.Form.{Form}
 use Rattle.dp_runner.specs.declared.form.Form.TheVariants as form
 use Rattle.dp_runner.specs.declared.stop.Stop.TheVariants as stop
 use Rattle.dp_runner.specs.Outcome.{Source, Outcome, Command}
+use Rattle.dp_runner.specs.Account.{account_form, account_command}
 use Rattle.dp_runner.specs.Check.{check_form, check_command}
 use Rattle.dp_runner.specs.Count.{count_form, count_command}
 
@@ -14,12 +15,14 @@ abbrev pub form_after : List ℕ → List (List ℕ) → Option Form
 form_after command words =
     if bytes_eq command (codes "count") then option_map form.Count (count_form words)
     else if bytes_eq command (codes "check") then option_map form.Check (check_form words)
+    else if bytes_eq command (codes "account") then option_map form.Account (account_form words)
     else None
 
 -- what is said of each form
 abbrev pub command_of : Form → Command
 command_of (form.Count words) = count_command words
 command_of (form.Check words) = check_command words
+command_of (form.Account words) = account_command words
 
 -- the form of all words
 unfoldable pub form_of : List (List ℕ) → Option Form

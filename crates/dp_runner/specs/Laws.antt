@@ -1,6 +1,7 @@
 -- Where a run does its work: a law a command. Its words are of its form, its files are there and within their limits,
 -- its pipeline is accepted, and its draws are enough.
-use Rattle.std.specs.Prelude.{◌≡◌, ◌<◌, ◌≤◌, ◌^◌, ℕ, List, [], length, Some, None, Ok, Err}
+use Rattle.std.specs.Prelude.{◌≡◌, ◌<◌, ◌≤◌, ◌^◌, ◌++◌, ℕ, List, [], false, length, Some, None, Ok, Err}
+use Rattle.dp_io.specs.Lines.{lines_of, has_line_over}
 use Rattle.dp_io.specs.Shelf.{Files}
 use Rattle.dp_draws.specs.Numbers.{drawn_numbers}
 use Rattle.dp_pipeline.specs.declared.content.Content.{Content}
@@ -9,6 +10,9 @@ use Rattle.dp_pipeline.specs.Printing.{check_text}
 use Rattle.dp_runner.specs.declared.form.Form.TheVariants as form
 use Rattle.dp_runner.specs.declared.stop.Stop.TheVariants as stop
 use Rattle.dp_runner.specs.Outcome.{Source, Outcome}
+use Rattle.dp_session.specs.QueryLines.{account_lines, end_line}
+use Rattle.dp_session.specs.Verdicts.{units}
+use Rattle.dp_runner.specs.Account.{AccountForm}
 use Rattle.dp_runner.specs.Check.{CheckForm}
 use Rattle.dp_runner.specs.Count.{CountForm, cell_draws, cell_answer, answer_line}
 use Rattle.dp_runner.specs.Forms.{form_of, outcome}
@@ -37,6 +41,18 @@ CheckLaw = (words : List (List ℕ)) (files : Files) (source : Source) (check : 
     → form_of words ≡ Some (form.Check check)
     → files check.pipeline_name ≡ Some text → accepted text ≡ Ok content
     → IsDone (outcome words files source) (check_text content) source.state
+
+-- `account` writes the line of each query and the end line, ends with 0 and leaves the draw source that is handed in as
+-- it was
+abbrev pub AccountLaw : Type 0
+AccountLaw = (words : List (List ℕ)) (files : Files) (source : Source) (account : AccountForm)
+    → (text queries : List ℕ) (content : Content)
+    → form_of words ≡ Some (form.Account account)
+    → files account.pipeline_name ≡ Some text → accepted text ≡ Ok content
+    → files account.queries_name ≡ Some queries → has_line_over (2 ^ 20) queries ≡ false
+    → let lines = lines_of queries in
+    IsDone (outcome words files source)
+    (account_lines content [] lines ++ end_line (length lines) (units content lines)) source.state
 
 -- what a run did that a refused pipeline stopped: nothing was written, and its number has one digit
 pub record IsRefusedBy (outcome : Outcome) (c : ℕ) (last : List ℕ) : Type 0 where

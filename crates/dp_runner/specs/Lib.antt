@@ -1,3 +1,4 @@
+pub mod Account
 pub mod Causes
 pub mod Check
 pub mod Count
@@ -8,5 +9,6 @@ pub mod Pipelines
 pub mod RunClauses
 pub mod Stops
 pub mod Texts
+pub mod Turns
 pub mod Words
 pub mod WrittenLines

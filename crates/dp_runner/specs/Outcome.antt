@@ -35,6 +35,11 @@ abbrev pub or_stop : {A : Type 0} → Stop → Option A → Result A Stop
 or_stop reason None = Err reason
 or_stop reason (Some x) = Ok x
 
+-- a run that goes on with what it read of its files, or ends before it writes anything; the source stays as it was
+abbrev pub once_read : {A : Type 0} → Source → (A → Outcome) → Result A Stop → Outcome
+once_read source next (Ok x) = next x
+once_read source next (Err reason) = record { bytes = []; stop = Some reason; last = source.state }
+
 -- a run that writes all at its end and leaves the source as it was
 abbrev pub written_last : Source → Result (List ℕ) Stop → Outcome
 written_last source (Ok bytes) = record { bytes = bytes; stop = None; last = source.state }

@@ -2,6 +2,8 @@
 use Rattle.std.specs.Prelude.{ℕ, ◌+◌, ◌%◌, ◌==◌, ◌||◌, ◌++◌, Bool, List, [], ◌∷◌, Option, Some, None, codes}
 use Rattle.dp_io.specs.declared.faults.OpenFault.{OpenFault}
 use Rattle.dp_io.specs.declared.faults.OpenFault.TheVariants as open_fault
+use Rattle.dp_io.specs.declared.faults.LineFault.{LineFault}
+use Rattle.dp_io.specs.declared.faults.LineFault.TheVariants as line_fault
 use Rattle.dp_io.specs.declared.faults.WholeFault.{WholeFault}
 use Rattle.dp_io.specs.declared.faults.WholeFault.TheVariants as whole_fault
 use Rattle.dp_pipeline.specs.declared.faults.PipelineFault.{PipelineFault}
@@ -26,6 +28,7 @@ row_of stop.ReadFault = record { status = 4; line = codes "dp: read fault\n" }
 row_of stop.WriteFault = record { status = 5; line = codes "dp: write fault\n" }
 row_of stop.DrawFault = record { status = 6; line = codes "dp: draw fault\n" }
 row_of stop.TooLong = record { status = 7; line = codes "dp: too long\n" }
+row_of stop.QueryLimit = record { status = 8; line = codes "dp: query limit\n" }
 row_of stop.NoMemory = record { status = 9; line = codes "dp: no memory\n" }
 
 -- the status of a run that this stop ended, or that nothing stopped
@@ -52,6 +55,11 @@ abbrev pub stop_of_whole : WholeFault → Stop
 stop_of_whole whole_fault.Failed = stop.ReadFault
 stop_of_whole whole_fault.TooLong = stop.TooLong
 stop_of_whole whole_fault.NoMemory = stop.NoMemory
+
+-- what a fault of reading a line of queries stops a run with
+abbrev pub stop_of_line : LineFault → Stop
+stop_of_line line_fault.Failed = stop.ReadFault
+stop_of_line line_fault.TooLong = stop.QueryLimit
 
 -- what a fault of reading a pipeline stops a run with
 abbrev pub stop_of_pipeline : PipelineFault → Stop

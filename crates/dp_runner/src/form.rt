@@ -1,6 +1,7 @@
 ghost use Rattle.std.specs.Prelude.{◌≡◌, map, string_bytes};
 ghost use Rattle.dp_runner.specs.Forms.{form_of, form_after};
 
+use crate::account::{AccountForm, account_form};
 use crate::check::{CheckForm, check_form};
 use crate::count::{CountForm, count_form};
 
@@ -11,6 +12,8 @@ pub(crate) enum Form<'a> {
     Count(CountForm<'a>),
     /// `check P`
     Check(CheckForm<'a>),
+    /// `account P QUERIES`
+    Account(AccountForm<'a>),
 }
 
 /// The form of the words, if they are of one.
@@ -30,6 +33,7 @@ fn form_after<'a>(command: &str, words: &'a [String]) -> Option<Form<'a>>
     match command {
         "count" => Some(Form::Count(count_form(words)?)),
         "check" => Some(Form::Check(check_form(words)?)),
+        "account" => Some(Form::Account(account_form(words)?)),
         _ => None,
     }
 }

@@ -1,5 +1,5 @@
 //! Where a run does its work. Each law is the contract of a function that does nothing.
-ghost use Rattle.dp_runner.specs.Laws.{CountLaw, CheckLaw, RefusalLaw, LongLaw};
+ghost use Rattle.dp_runner.specs.Laws.{CountLaw, CheckLaw, AccountLaw, RefusalLaw, LongLaw};
 
 /// Where the words are of the form of `count`, its files are there and within their limits, and its draws are enough,
 /// the run writes the line of the answer and ends with 0.
@@ -11,6 +11,13 @@ pub fn count_law()
 /// the stages of the pipeline and ends with 0.
 pub fn check_law()
     ensures { CheckLaw }
+{}
+
+/// Where the words are of the form of `account`, its files are there, its pipeline is accepted, and there are at most
+/// 2^20 query lines, each of at most 65,536 bytes, the run writes the line of each query and the end line and ends with
+/// 0.
+pub fn account_law()
+    ensures { AccountLaw }
 {}
 
 /// Where the words are of the form of `check`, its file is there and its text is refused with a number, the run writes

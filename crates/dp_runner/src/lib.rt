@@ -1,6 +1,7 @@
 //! The runner: all that the program `dp` does, as one call over a shelf of files, a draw source and two outputs.
 #![tactic(auto)]
 
+mod account;
 mod check;
 mod count;
 mod form;

@@ -7,6 +7,7 @@ ghost use Rattle.dp_runner.specs.Forms.{form_of, command, outcome};
 ghost use Rattle.dp_runner.specs.RunClauses.{IsOutcome, IsRefused, Ending, GainsLines, GainsMessage};
 ghost use Rattle.dp_runner.specs.Stops.{row_of, is_silent};
 
+use crate::account::run_account;
 use crate::check::run_check;
 use crate::count::run_count;
 use crate::form::{Form, form_of};
@@ -17,12 +18,14 @@ use std::alloc::Global;
 
 /// Does all that the program does, and gives the status that it ends with.
 ///
-/// `words` are the words of the command line without the program's own name. They have one of two forms, neither of
+/// `words` are the words of the command line without the program's own name. They have one of three forms, none of
 /// which uses the draw source that is handed in:
 ///
 /// - `count DATA DRAWS LO HI` counts the CSV records of the file DATA and writes `answer A`, A being the geometric
 ///   release of that number with the ratio 1/2 and the range LO..HI, from the draws in the file DRAWS;
-/// - `check P` reads the pipeline of the file P and writes its stages.
+/// - `check P` reads the pipeline of the file P and writes its stages;
+/// - `account P QUERIES` reads the pipeline of the file P and the lines of the file QUERIES, and writes the verdict of
+///   each query, what it costs and what is spent, and a last line.
 ///
 /// | status | line on `err` | comes |
 /// |---|---|---|
@@ -33,6 +36,7 @@ use std::alloc::Global;
 /// | 5 | `dp: write fault` | only where the count of faults of `out` rose |
 /// | 6 | `dp: draw fault` | exactly where DRAWS has too few numbers or one out of range, and no other fault came |
 /// | 7 | `dp: too long` | exactly where DATA passes 2^30 bytes or DRAWS 2^26, and no earlier fault came |
+/// | 8 | `dp: query limit` | exactly where a line of QUERIES passes 65,536 bytes or they pass 2^20, and no fault came |
 /// | 9 | `dp: no memory` | memory ran out |
 ///
 /// The first fault ends the run. A failure of `err` does not change the status. A run that ends with 0 opened each file
@@ -82,6 +86,9 @@ pub fn run_words<S: Shelf, D: Draws, K: Sink, E: Sink>(
     ensures too_long { result ≡ 7 → ForSome (S.files shelf.old)
         (λ files. (outcome (map string_bytes words.now) files (source_at D.step (D.state draws.old))).stop
         ≡ Some Stop.TooLong) }
+    ensures query_limit { result ≡ 8 → ForSome (S.files shelf.old)
+        (λ files. (outcome (map string_bytes words.now) files (source_at D.step (D.state draws.old))).stop
+        ≡ Some Stop.QueryLimit) }
 
     // No run opens more files than its words name, and one that ends with 0 opens so many.
     ensures opens { S.slots shelf.new ≤ S.slots shelf.old + (command (map string_bytes words.now)).files }
@@ -153,5 +160,6 @@ fn run<S: Shelf, D: Draws, K: Sink>(
         None => Err(Stop::Usage),
         Some(Form::Count(form)) => run_count(alloc, &form, shelf, out),
         Some(Form::Check(form)) => run_check(alloc, &form, shelf, out),
+        Some(Form::Account(form)) => run_account(alloc, &form, shelf, out),
     }
 }

@@ -3,7 +3,7 @@ ghost use Rattle.dp_runner.specs.Stops.{row_of, refused_line};
 ghost use Rattle.dp_runner.specs.declared.stop.Stop.TheVariants as stop;
 
 use dp_count::{Failed, NoMemory};
-use dp_io::{OpenFault, WholeFault};
+use dp_io::{LineFault, OpenFault, WholeFault};
 use dp_pipeline::PipelineFault;
 
 /// Why a run ended before its end.
@@ -21,6 +21,8 @@ pub(crate) enum Stop {
     DrawFault,
     /// A file is longer than its limit.
     TooLong,
+    /// A query line is longer than its limit, or there are more lines than their limit.
+    QueryLimit,
     /// Memory ran out.
     NoMemory,
 }
@@ -47,6 +49,7 @@ impl Stop {
             Stop::WriteFault => (5, "dp: write fault\n"),
             Stop::DrawFault => (6, "dp: draw fault\n"),
             Stop::TooLong => (7, "dp: too long\n"),
+            Stop::QueryLimit => (8, "dp: query limit\n"),
             Stop::NoMemory => (9, "dp: no memory\n"),
         };
         StopRow { status, line }
@@ -104,6 +107,20 @@ impl From<WholeFault> for Stop {
             WholeFault::Failed => Stop::ReadFault,
             WholeFault::TooLong => Stop::TooLong,
             WholeFault::NoMemory => Stop::NoMemory,
+        }
+    }
+}
+
+impl From<LineFault> for Stop {
+    ghost use Rattle.std.specs.Prelude.{◌≡◌};
+    ghost use Rattle.dp_runner.specs.Stops.{stop_of_line};
+
+    ghost from_gives = { λ fault e. e ≡ stop_of_line fault };
+
+    fn from(fault: LineFault) -> Self {
+        match fault {
+            LineFault::Failed => Stop::ReadFault,
+            LineFault::TooLong => Stop::QueryLimit,
         }
     }
 }

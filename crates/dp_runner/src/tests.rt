@@ -1,3 +1,6 @@
+ghost use Rattle.std.specs.Prelude.{◌≤◌};
+
+mod account;
 mod check;
 
 use crate::laws::count_law;
@@ -36,6 +39,14 @@ const NO_FAILURE: Calls = Calls {
 /// How many bytes an output in memory has room for.
 const ROOM: usize = 1024;
 
+/// How many bytes a read and a write of a run's objects take at most.
+#[derive(Clone, Copy, Drop)]
+struct Pieces {
+    read: usize,
+    written: usize,
+    told: usize,
+}
+
 /// A run over a shelf in memory with the files `data` and `draws`.
 fn run_with(
     rt: &impl AllocGlobal,
@@ -44,13 +55,36 @@ fn run_with(
     draws: &[u8],
     calls: Calls,
 ) -> Result<Shown, Fail> {
-    let alloc = rt.alloc();
-    let (read, written, told) = if calls.whole {
-        (1 << 20, 64, 64)
+    let pieces = if calls.whole {
+        Pieces {
+            read: 1 << 20,
+            written: 64,
+            told: 64,
+        }
     } else {
-        (7, 3, 5)
+        Pieces {
+            read: 7,
+            written: 3,
+            told: 5,
+        }
     };
-    let mut shelf = MemShelf::new(alloc, read, vec![in alloc; calls.shelf]?);
+    run_in_pieces(rt, words, data, draws, calls, pieces)
+}
+
+/// The same, whose objects take such pieces.
+fn run_in_pieces(
+    rt: &impl AllocGlobal,
+    words: &[&str],
+    data: &[u8],
+    draws: &[u8],
+    calls: Calls,
+    pieces: Pieces,
+) -> Result<Shown, Fail>
+    requires written { 1 ≤ pieces.written }
+    requires told { 1 ≤ pieces.told }
+{
+    let alloc = rt.alloc();
+    let mut shelf = MemShelf::new(alloc, pieces.read, vec![in alloc; calls.shelf]?);
     shelf.add(
         String::from_str(alloc, "data")?,
         Vec::from_slice(alloc, data)?,
@@ -59,8 +93,8 @@ fn run_with(
         String::from_str(alloc, "draws")?,
         Vec::from_slice(alloc, draws)?,
     )?;
-    let mut out = MemSink::new(alloc, written, vec![in alloc; calls.out]?, ROOM)?;
-    let mut err = MemSink::new(alloc, told, vec![in alloc; calls.err]?, ROOM)?;
+    let mut out = MemSink::new(alloc, pieces.written, vec![in alloc; calls.out]?, ROOM)?;
+    let mut err = MemSink::new(alloc, pieces.told, vec![in alloc; calls.err]?, ROOM)?;
     let mut given = Vec::new(alloc);
     for word in words {
         given.push(String::from_str(alloc, word)?)?;

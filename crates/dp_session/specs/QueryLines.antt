@@ -1,5 +1,5 @@
 -- The line that is written of each query, and the last line.
-use Rattle.std.specs.Prelude.{ℕ, ◌+◌, List, ◌∷◌, ◌++◌, length, Result, Ok, Err, codes}
+use Rattle.std.specs.Prelude.{ℕ, ◌+◌, List, [], ◌∷◌, ◌++◌, length, Result, Ok, Err, codes}
 use Rattle.std.specs.Fmt as fmt
 use Rattle.dp_law.specs.Mechanism.{Mechanism}
 use Rattle.dp_count.specs.Results.{on_ok}
@@ -60,6 +60,12 @@ admitted_text node release = codes "admitted draws " ++ fmt.decimal (length rele
 -- the line of a query where there are no data
 abbrev pub account_line : Content → List (List ℕ) → List ℕ → List ℕ
 account_line = query_line admitted_text
+
+-- the lines of queries, oldest first, that come after others, joined, where there are no data
+unfoldable pub account_lines : Content → List (List ℕ) → List (List ℕ) → List ℕ
+account_lines pipeline past [] = []
+account_lines pipeline past (line ∷ lines) =
+    account_line pipeline past line ++ account_lines pipeline (line ∷ past) lines
 
 -- the last line: how many queries there were, and what the root has spent
 abbrev pub end_line : ℕ → ℕ → List ℕ
