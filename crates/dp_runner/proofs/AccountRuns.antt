@@ -1,11 +1,11 @@
 -- What a run of `account` does, from what it reads and what it answers.
-use Rattle.std.proofs.Common.{◌≡◌, ◌∙◌, ◌≤◌, ◌^◌, ◌⊎◌, ℕ, false, List, [], ◌++◌, length, Option, Some, None, IsSome, option_map, Result, Ok, Err, refl, sym, ap, arith, inl, inr, subst, ⊎_elim}
+use Rattle.std.proofs.Common.{◌≡◌, ◌∙◌, ◌≤◌, ◌^◌, ◌⊎◌, ℕ, false, List, [], ◌++◌, length, Option, Some, None, IsSome, option_map, Result, Ok, Err, refl, sym, ap, inl, inr, subst, ⊎_elim}
 use Rattle.std.specs.Option.{ForSome}
 use Rattle.dp_count.specs.Faults.{Rose}
 use Rattle.dp_count.specs.Results.{◌>>=◌}
 use Rattle.dp_io.specs.declared.faults.OpenFault.{OpenFault}
 use Rattle.dp_io.specs.declared.faults.OpenFault.TheVariants as open_fault
-use Rattle.dp_io.specs.Lines.{LinesValue, lines_of, lines_within, has_line_over, remaining}
+use Rattle.dp_io.specs.Lines.{LinesValue, lines_of, has_line_over, remaining}
 use Rattle.dp_io.specs.Shelf.{Files, StartsFile, LacksFile}
 use Rattle.dp_io.proofs.TextLines.{within-all}
 use Rattle.dp_pipeline.specs.declared.content.Content.{Content}

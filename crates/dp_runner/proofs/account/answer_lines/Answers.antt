@@ -1,4 +1,4 @@
-use Rattle.std.proofs.Common.{◌≡◌, ◌∙◌, ◌-◌, ◌+◌, ◌^◌, suc, arith, ap, rules, Err, refl}
+use Rattle.std.proofs.Common.{◌∙◌, ◌-◌, ◌+◌, ◌^◌, arith, ap, Err, refl}
 use Rattle.std.proofs.lemmas.Result.{err_from_is_err_and}
 use Rattle.dp_runner.proofs.AccountSteps.{standing-more, ends-over, turn-none, turn-some, turn-ends, next-ends, end-ends, more-some, more-none}
 use Rattle.dp_runner.proofs.account.answer_lines.Goals as goal

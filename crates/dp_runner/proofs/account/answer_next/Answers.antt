@@ -1,7 +1,5 @@
-use Rattle.std.proofs.Common.{◌≡◌, ◌∙◌, ◌<◌, ℕ, List, Bool, true, false, length, nat_lt, arith, sym, ap}
+use Rattle.std.proofs.Common.{◌≡◌, ◌∙◌, ◌<◌, ℕ, List, Bool, true, length, nat_lt, arith}
 use Rattle.std.proofs.lemmas.Bool.Decides.{nat_tests}
-use Rattle.dp_session.specs.QueryLines.{account_line}
-use Rattle.dp_io.specs.Sink.{AddsFront}
 use Rattle.dp_runner.proofs.account.answer_next.Goals as goal
 
 some-more : (more : Bool) (text : List ℕ) → more ≡ nat_lt 0 (length text) → more ≡ true → 0 < length text
