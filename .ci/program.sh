@@ -62,6 +62,24 @@ verdicts='1 admitted draws 13 cost 1 spent 1
 3 admitted draws 13 cost 1 spent 5
 4 refused 7 budget 20 15
 end 4 spent 5'
+printf '%s\n' '{"node":0,"ask":"p"}' '{"node":0,"ask":[["count"],["geometric",1,0,5]]}' \
+    '{"node":0,"ask":[["truncate",0],["count"],["geometric",1,0,5]]}' \
+    '{"node":0,"ask":[["filter","item","y"],["truncate",1],["count"],["geometric",1,0,5]]}' >of_persons
+printf '%s' '{"version":1,"columns":["id","item"],"header":false,"user":"id","ratio":[1,2],"distance":1,' \
+    '"root":["odometer"],"plans":{"p":[["truncate",2],["count"],["geometric",1,0,5]]}}' >persons
+persons='1 admitted draws 6 cost 4 spent 4
+2 refused 4 construction 2
+3 refused 4 construction 3
+4 admitted draws 6 cost 2 spent 6
+end 4 spent 6'
+printf '{"version":1,"columns":["sex","age"],"header":false,"ratio":[1,2],"distance":1,"root":["odometer"],"plans":{}}' >plain
+printf '%s\n' '{"node":0,"ask":[["select","sex"],["clamp",0,1],["sum"],["geometric",1,0,1]]}' \
+    '{"node":0,"ask":[["select","age"],["cast"],["impute",0],["resize",2,0],["resize",2,0],["sum"],["geometric",1,0,1]]}' \
+    '{"node":0,"ask":[["select","age"],["cast"],["impute",0],["clamp",5,4],["sum"],["geometric",1,0,1]]}' >not_made
+refusals='1 refused 4 construction 1
+2 refused 4 construction 2
+3 refused 4 construction 3
+end 3 spent 0'
 { head -n 1 queries; head -c 65537 /dev/zero | tr '\0' ' '; } >wide
 head -c 1048576 /dev/zero | tr '\0' '\n' >most
 { cat most; echo; } >more
@@ -94,6 +112,8 @@ case_of 'a refusal for an error output that is full' 3 '' '' '"$dp" check cut 2>
 
 # Queries.
 case_of 'the verdicts of queries' 0 "$verdicts" '' '"$dp" account census queries'
+case_of 'the verdicts of queries on persons' 0 "$persons" '' '"$dp" account persons of_persons'
+case_of 'releases that are not made' 0 "$refusals" '' '"$dp" account plain not_made'
 case_of 'queries on the standard input' 0 "$verdicts" '' '"$dp" account census - <queries'
 case_of 'queries in pieces' 0 "$verdicts" '' '{ head -c 30 queries; sleep 0.1; tail -c +31 queries | head -c 100; sleep 0.1; tail -c +131 queries; } | "$dp" account census -'
 case_of 'no queries' 0 'end 0 spent 0' '' '"$dp" account census /dev/null'

@@ -80,6 +80,7 @@ fn run_in_pieces(
     calls: Calls,
     pieces: Pieces,
 ) -> Result<Shown, Fail>
+    requires read { 1 ≤ pieces.read }
     requires written { 1 ≤ pieces.written }
     requires told { 1 ≤ pieces.told }
 {
