@@ -60,7 +60,7 @@ cp "$here/examples/queries.txt" queries
 verdicts='1 admitted draws 13 cost 1 spent 1
 2 node cost 4 spent 5
 3 admitted draws 13 cost 1 spent 5
-4 refused 7 budget 20 15
+4 refused 7 budget 16 15
 end 4 spent 5'
 printf '%s\n' '{"node":0,"ask":"p"}' '{"node":0,"ask":[["count"],["geometric",1,0,5]]}' \
     '{"node":0,"ask":[["truncate",0],["count"],["geometric",1,0,5]]}' \
