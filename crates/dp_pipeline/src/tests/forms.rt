@@ -165,7 +165,8 @@ fn arrays_nest_at_most_127_deep(rt: HostRuntime) -> Result<(), Fail> {
 fn a_text_has_at_most_2_to_the_20_bytes(rt: HostRuntime) -> Result<(), Fail> {
     let alloc = rt.alloc();
     let mut text = pipeline(alloc, "[\"a\"]", "[\"odometer\"]", "{}")?;
-    let spaces = repeated(alloc, " ", 1_048_576 - text.len())?;
+    let most: usize = 1_048_576;
+    let spaces = repeated(alloc, " ", most.saturating_sub(text.len()))?;
     text.push_str(spaces.as_str())?;
     assert_eq!(rt; refusal(alloc, text.as_bytes())?, 0);
     text.push_str(" ")?;

@@ -1,5 +1,4 @@
 use crate::{Pipeline, Query, QueryFault, read_pipeline, read_query};
-use dp_chain::Stage;
 use dp_count::NoMemory;
 use std::alloc::Global;
 use std::process::Abort;
@@ -26,11 +25,8 @@ fn an_ask_names_a_plan_or_says_its_release(rt: HostRuntime) {
     };
     assert_eq!(rt; node, 0);
     assert_eq!(rt; spec.parts().len(), 2);
-    let Stage::Filter { column, text } = spec.parts().at(0).stages.at(0) else {
-        panic!(rt; "a filter");
-    };
-    assert_eq!(rt; *column, 0);
-    assert_eq!(rt; text.as_slice(), b"F".as_slice());
+    assert_eq!(rt; spec.parts().at(0).stages.len(), 2);
+    assert_eq!(rt; spec.parts().at(1).stages.len(), 1);
     let line = b"{\"ask\":[[\"count\"],[\"geometric\",1,0,1]],\"node\":4294967296}";
     let Ok(Query::Ask { node, spec }) = read_query(rt.alloc(), &pipeline, line) else {
         panic!(rt; "an ask");

@@ -8,7 +8,7 @@ fn columns(alloc: Global, number: usize, bytes: usize) -> Result<String, NoMemor
     let mut text = String::from_str(alloc, "[")?;
     for at in 0..number {
         let comma = if at == 0 { "" } else { "," };
-        let tail = at + 1000;
+        let tail = at.saturating_add(1000);
         let front = repeated(alloc, "c", bytes.saturating_sub(4))?;
         let name = format!(in alloc; "{comma}\"{front}{tail}\"")?;
         text.push_str(name.as_str())?;
