@@ -1,6 +1,6 @@
 ghost use Rattle.std.specs.Prelude.{Some, ◌≡◌, ◌≤◌, ◌^◌, ◌++◌, ◌∷◌, [], length, IfOk, OnOk, OnErr};
 ghost use Rattle.std.specs.Result.{result_ok};
-ghost use Rattle.dp_domain.specs.Domains.{Fits};
+ghost use Rattle.dp_domain.specs.Domains.{Fits, Has};
 ghost use Rattle.dp_domain.specs.Metrics.{SuitsMetric};
 ghost use Rattle.dp_domain.proofs.Limits.{Fits-prop};
 ghost use Rattle.dp_law.specs.Making.{MakesOr};
@@ -14,6 +14,7 @@ ghost use Rattle.dp_law.specs.Releasing.{Released, ReleaseCause};
 use crate::any_measurement::AnyMeasurement;
 use crate::both::joined_answers;
 use crate::faults::CostFault;
+use crate::input::Input;
 use crate::line::{Line, append};
 use crate::measured::Measured;
 use crate::noise::{Part, ReleaseSpec};
@@ -80,6 +81,23 @@ impl Release {
             return Err(CostFault::Draws);
         }
         Ok(loss)
+    }
+
+    /// The release on an input: each part's line is applied to it, and what it gives is measured, one part after the
+    /// other. The draws and the faults are those of `release` on the value for which the input stands.
+    pub fn release_from<I: Input, D: Draws>(
+        &self,
+        alloc: Global,
+        input: &I,
+        draws: &mut D,
+    ) -> Result<Answer, ReleaseFault>
+        requires { let m = ⟦<Release as Measurement>⟧.mechanism self.now in Has m.input_domain (I.stands_for input.now) }
+        ensures released { let m = ⟦<Release as Measurement>⟧.mechanism self.now in
+            Released D.step m.shape (m.function (I.stands_for input.now))
+            (D.state draws.old) result (D.state draws.new) }
+        ensures cause { ReleaseCause (D.faults draws.old) (D.faults draws.new) result }
+    {
+        release_each(alloc, self.parts.as_slice(), input, draws)
     }
 
     /// The parts, each a line and the measurement of what it gives.
@@ -250,24 +268,24 @@ fn total_loss(parts: &[MeasuredLine], d: u64) -> Result<u64, Past>
 
 /// The answers of the parts in order, each on draws of its own. A part takes the memory for its answer before its first
 /// draw.
-fn release_each<D: Draws>(
+fn release_each<I: Input, D: Draws>(
     alloc: Global,
     parts: &[MeasuredLine],
-    v: &Value,
+    input: &I,
     draws: &mut D,
 ) -> Result<Answer, ReleaseFault>
-    requires { HaveInput v.now (part_mechanisms parts.now) }
+    requires { HaveInput (I.stands_for input.now) (part_mechanisms parts.now) }
     ensures released { let parts = part_mechanisms parts.now in
-        Released D.step (joined_shape parts) (joined_answer parts v.now)
+        Released D.step (joined_shape parts) (joined_answer parts (I.stands_for input.now))
         (D.state draws.old) result (D.state draws.new) }
     ensures cause { ReleaseCause (D.faults draws.old) (D.faults draws.new) result }
 {
     let Some((first, rest)) = parts.split_first() else {
         return Ok(Answer::new(alloc));
     };
-    match first.release(alloc, v, draws) {
+    match release_part(alloc, first, input, draws) {
         Err(fault) => Err(fault),
-        Ok(front) => match release_each(alloc, rest, v, draws) {
+        Ok(front) => match release_each(alloc, rest, input, draws) {
             Err(fault) => Err(fault),
             Ok(back) => match joined_answers(front, back) {
                 Err(NoMemory) => Err(ReleaseFault::NoMemory),
@@ -275,4 +293,24 @@ fn release_each<D: Draws>(
             },
         },
     }
+}
+
+/// The answer of one part: its line is applied to the input, and what it gives is measured.
+fn release_part<I: Input, D: Draws>(
+    alloc: Global,
+    part: &MeasuredLine,
+    input: &I,
+    draws: &mut D,
+) -> Result<Answer, ReleaseFault>
+    requires { let m = part_mechanism part.now in Has m.input_domain (I.stands_for input.now) }
+    ensures released { let m = part_mechanism part.now in
+        Released D.step m.shape (m.function (I.stands_for input.now))
+        (D.state draws.old) result (D.state draws.new) }
+    ensures cause { ReleaseCause (D.faults draws.old) (D.faults draws.new) result }
+{
+    let between = match input.through(alloc, part.first()) {
+        Ok(between) => between,
+        Err(NoMemory) => return Err(ReleaseFault::NoMemory),
+    };
+    part.second().release(alloc, &between, draws)
 }
