@@ -1,9 +1,12 @@
 pub mod Accounts
+pub mod AnswerText
 pub mod Privacy
 pub mod PrivacyEdges
 pub mod QueryLines
 pub mod Runs
 pub mod RunWays
+pub mod SessionLines
+pub mod Sessions
 pub mod Settling
 pub mod Works
 pub mod Verdicts

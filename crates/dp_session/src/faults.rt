@@ -39,6 +39,45 @@ impl From<Failed> for AccountFault {
     }
 }
 
+/// Why a session did not answer a line.
+#[derive(Clone, Copy, Debug, PartialEq, Eq, Error)]
+pub enum SessionFault {
+    /// An earlier call answered a fault, or the last line was asked for.
+    #[error("Ended")]
+    Ended,
+    /// A draw could not be taken.
+    #[error("DrawFault")]
+    DrawFault,
+    /// The output failed.
+    #[error("WriteFault")]
+    WriteFault,
+    /// Memory ran out.
+    #[error("NoMemory")]
+    NoMemory,
+}
+
+impl From<NoMemory> for SessionFault {
+    ghost use Rattle.std.specs.Prelude.{◌≡◌};
+    ghost use Rattle.dp_session.specs.declared.faults.SessionFault.TheVariants as fault;
+
+    ghost from_gives = { λ _ made. made ≡ fault.NoMemory };
+
+    fn from(_: NoMemory) -> Self {
+        SessionFault::NoMemory
+    }
+}
+
+impl From<Failed> for SessionFault {
+    ghost use Rattle.std.specs.Prelude.{◌≡◌};
+    ghost use Rattle.dp_session.specs.declared.faults.SessionFault.TheVariants as fault;
+
+    ghost from_gives = { λ _ made. made ≡ fault.WriteFault };
+
+    fn from(_: Failed) -> Self {
+        SessionFault::WriteFault
+    }
+}
+
 /// Why the last line was not written.
 #[derive(Clone, Copy, Debug, PartialEq, Eq, Error)]
 pub enum EndFault {

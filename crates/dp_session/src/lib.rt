@@ -10,13 +10,15 @@ mod judge;
 pub mod laws;
 mod queries;
 mod refusal;
+mod session;
 mod task;
 mod text;
 mod work;
 
 pub use account::Account;
-pub use faults::{AccountFault, EndFault};
+pub use faults::{AccountFault, EndFault, SessionFault};
 pub use refusal::Refusal;
+pub use session::Session;
 
 #[cfg(test)]
 mod tests;
