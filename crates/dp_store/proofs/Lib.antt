@@ -1,3 +1,4 @@
 pub mod AllNumbers
 pub mod ChosenRows
 pub mod StoredCells
+pub mod TakenColumns

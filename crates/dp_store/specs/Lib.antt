@@ -1,2 +1,4 @@
+pub mod Held
 pub mod Selections
 pub mod Stores
+pub mod Taken

@@ -3,9 +3,12 @@
 #![tactic(auto)]
 
 mod chosen;
+mod held;
+mod lines;
 mod selection;
 mod store;
 
+pub use held::Held;
 pub use selection::Selection;
 pub use store::{Store, read_store, store_of};
 
