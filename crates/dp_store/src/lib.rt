@@ -3,8 +3,11 @@
 #![tactic(auto)]
 
 mod chosen;
+mod element;
 mod held;
 mod lines;
+mod listing;
+mod pass;
 mod selection;
 mod store;
 
