@@ -1,5 +1,6 @@
 //! Records in one store, and selections of them by their numbers, which are shared. Filtering and truncating a
-//! selection give the numbers of the records that they would keep; no record is copied.
+//! selection give the numbers of the records that they would keep; no record is copied. What a line gives of a
+//! selection is the line's function on its records; the stages that give at most one element for each are one pass.
 #![tactic(auto)]
 
 mod chosen;
