@@ -1,7 +1,7 @@
 -- What a pass over records gives: of records one after the other, what it gives of each.
 use Rattle.std.proofs.Common.{◌≡◌, ℕ, ◌+◌, ◌<◌, ◌≤◌, true, List, [], ◌∷◌, ◌++◌, map, length, drop, refl, sym, ap, ◌∙◌, arith}
 use Rattle.std.specs.Prelude.{slice_index_or}
-use Rattle.std.proofs.Common.{append-nil, subst}
+use Rattle.std.proofs.Common.{append-nil}
 use Rattle.std.proofs.lemmas.List.{length-append}
 use Rattle.std.proofs.lemmas.List.Elements.{All-head, All-tail, All-drop}
 use Rattle.dp_domain.specs.declared.values.Value.{Value}
@@ -12,7 +12,7 @@ use Rattle.dp_chain.specs.declared.any_transformation.AnyTransformation.{AnyTran
 use Rattle.dp_chain.specs.declared.any_transformation.AnyTransformation.TheVariants as any
 use Rattle.dp_chain.specs.contracts.any_transformation.AnyTransformationTransformation.TheImpl.{ghosts as stage_ghosts}
 use Rattle.dp_chain.proofs.LineSteps.{value-more}
-use Rattle.dp_store.specs.Rowwise.{is_rowwise, AllRowwise, list_len, joined}
+use Rattle.dp_store.specs.Rowwise.{is_rowwise, IsRowwise, AllRowwise, list_len, joined}
 use Rattle.dp_store.proofs.RowwiseLaws.{same_kind, Joins, filter-joins, select-joins, cast-joins, categories-joins, impute-joins, drop_none-joins, clamp-joins, bins-joins}
 use Rattle.dp_store.proofs.RowwiseLaws.{filter-fewer, select-fewer, cast-fewer, categories-fewer, impute-fewer, drop_none-fewer, clamp-fewer, bins-fewer}
 
@@ -50,14 +50,16 @@ pub given_of-nil : (v : Value) → given_of [] v ≡ v
 unfolding line_value
 given_of-nil v = refl
 
-pub given_of-cons : (stage : AnyTransformation) (stages : List AnyTransformation) (v : Value) → given_of (stage ∷ stages) v ≡ given_of stages (given stage v)
+pub given_of-cons : (stage : AnyTransformation) (stages : List AnyTransformation) (v : Value) →
+    given_of (stage ∷ stages) v ≡ given_of stages (given stage v)
 unfolding line_value
 given_of-cons stage stages v = refl
 
 pub given_of-append : (front back : List AnyTransformation) (v : Value) → given_of (front ++ back) v ≡ given_of back (given_of front v)
 given_of-append [] back v = ap (given_of back) (sym (given_of-nil v))
 given_of-append (stage ∷ front) back v =
-    given_of-cons stage (front ++ back) v ∙ given_of-append front back (given stage v) ∙ ap (given_of back) (sym (given_of-cons stage front v))
+    given_of-cons stage (front ++ back) v ∙ given_of-append front back (given stage v)
+    ∙ ap (given_of back) (sym (given_of-cons stage front v))
 
 pub line-joins : (stages : List AnyTransformation) (v w : Value) → AllRowwise stages → same_kind v w ≡ true → Joins (given_of stages) v w
 line-joins [] v w all same = (
@@ -65,18 +67,20 @@ line-joins [] v w all same = (
   ap (λ x. same_kind x (given_of [] w)) (given_of-nil v) ∙ ap (λ x. same_kind v x) (given_of-nil w) ∙ same,
 )
 line-joins (stage ∷ stages) v w all same =
-    let here = stage-joins stage v w (All-head (λ (s : AnyTransformation). is_rowwise s ≡ true) stage stages all) same in
-    let there = line-joins stages (given stage v) (given stage w) (All-tail (λ (s : AnyTransformation). is_rowwise s ≡ true) stage stages all) here.1 in (
+    let here = stage-joins stage v w (All-head IsRowwise stage stages all) same in
+    let there = line-joins stages (given stage v) (given stage w) (All-tail IsRowwise stage stages all) here.1 in (
       given_of-cons stage stages (joined v w) ∙ ap (given_of stages) here.0 ∙ there.0
-          ∙ sym (ap (λ x. joined x (given_of (stage ∷ stages) w)) (given_of-cons stage stages v) ∙ ap (λ x. joined (given_of stages (given stage v)) x) (given_of-cons stage stages w)),
-      ap (λ x. same_kind x (given_of (stage ∷ stages) w)) (given_of-cons stage stages v) ∙ ap (λ x. same_kind (given_of stages (given stage v)) x) (given_of-cons stage stages w) ∙ there.1,
+          ∙ sym (ap (λ x. joined x (given_of (stage ∷ stages) w)) (given_of-cons stage stages v)
+          ∙ ap (λ x. joined (given_of stages (given stage v)) x) (given_of-cons stage stages w)),
+      ap (λ x. same_kind x (given_of (stage ∷ stages) w)) (given_of-cons stage stages v)
+          ∙ ap (λ x. same_kind (given_of stages (given stage v)) x) (given_of-cons stage stages w) ∙ there.1,
     )
 
 pub line-fewer : (stages : List AnyTransformation) (v : Value) → AllRowwise stages → list_len (given_of stages v) ≤ list_len v
 line-fewer [] v all = let same = ap list_len (given_of-nil v) in omega arith
 line-fewer (stage ∷ stages) v all =
-    let here = stage-fewer stage v (All-head (λ (s : AnyTransformation). is_rowwise s ≡ true) stage stages all) in
-    let there = line-fewer stages (given stage v) (All-tail (λ (s : AnyTransformation). is_rowwise s ≡ true) stage stages all) in
+    let here = stage-fewer stage v (All-head IsRowwise stage stages all) in
+    let there = line-fewer stages (given stage v) (All-tail IsRowwise stage stages all) in
     let same = ap list_len (given_of-cons stage stages v) in
     omega arith
 
@@ -104,16 +108,12 @@ joined-len (value.Ints xs) (value.Ints ys) h = length-append xs ys
 joined-len (value.Cats xs) (value.Cats ys) h = length-append xs ys
 joined-len v w h = absurd (cc)
 
--- what is left of a list begins with its next item, and that is rowwise
-pub next-rowwise : (stages : List AnyTransformation) (i : ℕ) (stage : AnyTransformation) → i < length stages → stage ≡ slice_index_or stages i stage →
-    AllRowwise stages → is_rowwise stage ≡ true
-next-rowwise stages i stage h is all = subst (λ (s : AnyTransformation). is_rowwise s ≡ true) (sym is) (all i stage h)
-
 -- where a transformation gives no element, those after it give none
-pub none-left : (stages : List AnyTransformation) (i : ℕ) (stage : AnyTransformation) (v at : Value) → i < length stages → stage ≡ slice_index_or stages i stage →
+pub none-left : (stages : List AnyTransformation) (i : ℕ) (stage : AnyTransformation) (v at : Value) → i < length stages →
+    stage ≡ slice_index_or stages i stage →
     AllRowwise stages → given_of stages v ≡ given_of (drop i stages) at → list_len (given stage at) ≡ 0 → list_len (given_of stages v) ≡ 0
 none-left stages i stage v at h is all forward none =
     let next = value-more stage_ghosts.mapping stages i stage v at (given stage at) h is forward refl in
-    let few = line-fewer (drop (i + 1) stages) (given stage at) (All-drop (λ (s : AnyTransformation). is_rowwise s ≡ true) (i + 1) stages all) in
+    let few = line-fewer (drop (i + 1) stages) (given stage at) (All-drop IsRowwise (i + 1) stages all) in
     let same : list_len (given_of stages v) ≡ list_len (given_of (drop (i + 1) stages) (given stage at)) = ap list_len next in
     omega arith

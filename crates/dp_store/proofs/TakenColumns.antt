@@ -22,4 +22,5 @@ joined-columns columns domain metric [] h joined = All-nil (TakesColumns columns
 joined-columns columns domain metric (t ∷ ts) h joined =
     let m = stage_ghosts.mapping t in
     let here : TakesColumns columns t = subst (λ (d : Domain). IsOfColumns columns d) (sym joined.0) h in
-    All-cons (TakesColumns columns) t ts here (joined-columns columns m.output_domain m.output_metric ts (gives-columns columns t here) joined.2)
+    let there = joined-columns columns m.output_domain m.output_metric ts (gives-columns columns t here) joined.2 in
+    All-cons (TakesColumns columns) t ts here there

@@ -17,9 +17,12 @@ is_rowwise (any.Clamp part) = true
 is_rowwise (any.Bins part) = true
 is_rowwise _ = false
 
+abbrev pub IsRowwise : AnyTransformation → Type 0
+IsRowwise stage = is_rowwise stage ≡ true
+
 -- so does each of the transformations
 abbrev pub AllRowwise : List AnyTransformation → Type 0
-AllRowwise stages = All (λ stage. is_rowwise stage ≡ true) stages
+AllRowwise stages = All IsRowwise stages
 
 -- how many elements a list has, and any other value none
 abbrev pub list_len : Value → ℕ

@@ -89,7 +89,8 @@ fn of_record<'a>(store: &'a Store, stage: &AnyTransformation, number: u32) -> Op
     requires columns { TakesColumns store.now.columns stage.now }
     requires number { number < length store.now.records }
     ensures value { let m = ⟦<AnyTransformation as Transformation>⟧.mapping stage.now in
-        HasElement store.now.records result (m.function (value.Rows (record_at store.now.records number ∷ []))) }
+        HasElement store.now.records result
+        (m.function (value.Rows (record_at store.now.records number ∷ []))) }
     ensures stored { IfSome result (IsStoredElement store.now.records) }
 {
     match stage {

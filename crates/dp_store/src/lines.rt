@@ -109,8 +109,8 @@ fn hold_of_records(
     requires columns { AllTakeColumns store.now.columns stages.now }
     requires runs { Runs (stage_mappings stages.now) (value.Rows (selected store.now.records chosen.now)) }
     ensures used { IfOk result (λ next. (1 ≤ next.1) × (next.1 ≤ length stages.now)) }
-    ensures value { IfOk result (λ next. held_value store.now.records next.0
-        ≡ line_value (stage_mappings (take next.1 stages.now)) (value.Rows (selected store.now.records chosen.now))) }
+    ensures value { IfOk result (λ next. held_value store.now.records next.0 ≡ line_value
+        (stage_mappings (take next.1 stages.now)) (value.Rows (selected store.now.records chosen.now))) }
     ensures held { IfOk result (λ next. IsHeld store.now.records next.0) }
 {
     let front = rowwise_len(stages);

@@ -1,4 +1,5 @@
-ghost use Rattle.std.specs.Prelude.{◌≡◌, ◌≤◌, ◌^◌, ◌++◌, ◌∷◌, ℕ, true, List, [], IfOk, OnOk};
+ghost use Rattle.std.specs.Prelude.{◌≡◌, ◌≤◌, ◌^◌, ◌++◌, ◌∷◌, ℕ, true, List, []};
+ghost use Rattle.std.specs.Prelude.{IfOk, OnOk};
 ghost use Rattle.dp_domain.specs.declared.values.Value.TheVariants as value;
 ghost use Rattle.dp_chain.specs.Lines.{line_value};
 ghost use Rattle.dp_chain.specs.Meanings.{stage_mappings};
@@ -91,10 +92,10 @@ impl Listing {
         }
     }
 
-    /// Puts an element of the list's kind at the end.
+    /// Puts an element of the list's kind at the end. One of another kind is left out.
     pub(crate) fn push(&mut self, alloc: Global, element: Element<'_>) -> Result<(), NoMemory>
-        ensures value { (rows : List (List (List ℕ))) →
-            OnOk result (listing_value rows self.new ≡ joined (listing_value rows self.old) (element_value rows element.entry)) }
+        ensures value { (rows : List (List (List ℕ))) → OnOk result (listing_value rows self.new
+            ≡ joined (listing_value rows self.old) (element_value rows element.entry)) }
         ensures stored { (rows : List (List (List ℕ))) → IsStoredListing rows self.old →
             IsStoredElement rows element.entry → OnOk result (IsStoredListing rows self.new) }
     {

@@ -44,8 +44,8 @@ pub(crate) fn counted(store: &Store, base: &Selection, stages: &[AnyTransformati
     requires base { IsSelection store.now.records base.now }
     requires rowwise { AllRowwise stages.now }
     requires columns { AllTakeColumns store.now.columns stages.now }
-    ensures count { result
-        ≡ list_len (line_value (stage_mappings stages.now) (value.Rows (selected store.now.records base.now))) }
+    ensures count { result ≡ list_len
+        (line_value (stage_mappings stages.now) (value.Rows (selected store.now.records base.now))) }
     ensures few { result ≤ 2 ^ 30 }
 {
     let mut count = 0;

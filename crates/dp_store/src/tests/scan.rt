@@ -61,7 +61,8 @@ fn line_of(
     metric: Metric,
     stages: Vec<Stage>,
 ) -> Line
-    ensures { let m = ⟦<Line as Transformation>⟧.mapping result in m.input_domain ≡ domain.Rows store.now.columns }
+    ensures { let m = ⟦<Line as Transformation>⟧.mapping result in
+        m.input_domain ≡ domain.Rows store.now.columns }
 {
     let stages = Stages::from_vec(stages);
     let Ok(line) = Line::make(alloc, store.domain(), metric, &stages) else {
@@ -92,18 +93,18 @@ fn a_scan_gives_what_the_line_gives_of_the_selected_records(rt: HostRuntime) -> 
     Ok(())
 }
 
-/// That a scan and what is held have the value that the line itself gives, of all records and of those whose first cell
-/// is the text, and that records alone are held as a selection.
+/// That a scan and what is held of the records whose first cell is the text have the value that the line itself gives,
+/// and that records alone are held as a selection.
 fn scans_as_the_line(
     rt: &(impl Abort + AllocGlobal),
-    data: &[u8],
+    csv: &[u8],
     wanted: &[u8],
     metric: Metric,
     stages: Vec<Stage>,
 ) -> Result<(), Fail>
-    requires { length data.now ≤ 2 ^ 30 }
+    requires { length csv.now ≤ 2 ^ 30 }
 {
-    let store = stored(rt.alloc(), data)?;
+    let store = stored(rt.alloc(), csv)?;
     let all = store.whole(rt.alloc())?;
     let base = store.select(rt.alloc(), &all, 0, wanted)?;
     let line = line_of(rt, rt.alloc(), &store, metric, stages);

@@ -14,7 +14,8 @@ loop-place-preserved c =
       within = tail-len stages c.loop-place.place c.in_ok-next.used c.loop-place.invariant.within c.in_ok-next.ensures.used.1;
       held = c.in_ok-next.ensures.held;
       runs = next-runs stages c.loop-place.place c.in_ok-next.used at next c.loop-place.invariant.runs c.in_ok-next.ensures.value;
-      forward = next-given stages c.loop-place.place c.in_ok-next.used (value.Rows (selected rows c.args.base.now)) at next c.loop-place.invariant.forward c.in_ok-next.ensures.value;
+      forward = next-given stages c.loop-place.place c.in_ok-next.used (value.Rows (selected rows c.args.base.now)) at next
+          c.loop-place.invariant.forward c.in_ok-next.ensures.value;
     }
 
 pub returns-clause-value : goal.returns-clause-value

@@ -6,5 +6,6 @@ use Rattle.dp_store.proofs.lines.rowwise_len.Goals as goal
 
 pub loop-k-preserved : goal.loop-k-preserved
 loop-k-preserved c =
-    All-more (λ (stage : AnyTransformation). is_rowwise stage ≡ true) c.args.stages.now c.loop-k.k c.index-stages-k.result c.loop-k-test.true c.loop-k.invariant
+    All-more (λ (stage : AnyTransformation). is_rowwise stage ≡ true) c.args.stages.now c.loop-k.k c.index-stages-k.result
+    c.loop-k-test.true c.loop-k.invariant
     (ap is_rowwise (sym c.index-stages-k.is) ∙ sym c.is_rowwise.ensures ∙ c.if-not-is_rowwise.false)

@@ -7,7 +7,8 @@ use Rattle.dp_store.proofs.listing.kind_after.Goals as goal
 
 pub loop-stage-preserved : goal.loop-stage-preserved
 loop-stage-preserved c =
-    value-more stage_ghosts.mapping c.args.stages.now c.loop-stage.stage-index c.stage-item.result (value.Rows []) (no_elements c.loop-stage.kind)
+    value-more stage_ghosts.mapping c.args.stages.now c.loop-stage.stage-index c.stage-item.result (value.Rows [])
+    (no_elements c.loop-stage.kind)
     (no_elements c.next_kind-kind.result) c.loop-stage-test.true c.stage-item.is c.loop-stage.invariant c.next_kind-kind.ensures
 
 pub returns : goal.returns

@@ -21,7 +21,8 @@ hold_stages-requires-clause-columns c =
 pub hold_stages-requires-clause-runs : goal.hold_stages-requires-clause-runs
 hold_stages-requires-clause-runs c =
     let rows = c.args.self.now.records in
-    let each : All (λ cells. length cells ≡ c.args.self.now.columns) rows = rw c.columns-columns.ensures.columns at c.columns-columns.ensures.each in
+    let each : All (λ cells. length cells ≡ c.args.self.now.columns) rows =
+    rw c.columns-columns.ensures.columns at c.columns-columns.ensures.each in
     let has : Has (domain.Rows c.args.self.now.columns) (value.Rows (selected rows c.args.base.now)) =
     selected-Has c.args.self.now.columns rows c.args.base.now each c.requires.base in
     c.stages.ensures.runs (value.Rows (selected rows c.args.base.now))
