@@ -1,33 +1,23 @@
 -- The groups of a value of the inner measurement's input are values of it too.
-use Rattle.std.proofs.Common.{◌≡◌, ℕ, List, [], ◌∷◌, map, get_or, refl, sym, subst, ap, ◌∙◌}
+use Rattle.std.proofs.Common.{◌≡◌, ℕ, List, [], ◌∷◌, map, refl, sym, subst, ap, ◌∙◌}
 use Rattle.std.specs.List.{All}
-use Rattle.std.proofs.lemmas.List.Elements.{All-map}
 use Rattle.dp_domain.specs.declared.domains.Domain.{Domain}
-use Rattle.dp_domain.specs.declared.domains.Domain.TheVariants as domain
-use Rattle.dp_domain.specs.declared.metrics.Metric.TheVariants as metrics
 use Rattle.dp_domain.specs.declared.values.Value.{Value}
 use Rattle.dp_domain.specs.declared.values.Value.TheVariants as value
 use Rattle.dp_domain.specs.Domains.{Fits, Has}
 use Rattle.dp_rowwise.specs.Columns.{HasColumn}
-use Rattle.dp_rowwise.specs.Filter.{filter_value}
-use Rattle.dp_rowwise.specs.FilterProof.{filter_law}
 use Rattle.dp_group.specs.Grouped.{groups_of}
+use Rattle.dp_group.specs.GroupedLaw.{Records}
+use Rattle.dp_group.specs.GroupedProof.{groups-have}
 
 pub map-twice : {X Y Z : Type 0} (f : X → Y) (g : Y → Z) (xs : List X) → map g (map f xs) ≡ map (λ x. g (f x)) xs
 map-twice f g [] = refl
 map-twice {X} {Y} {Z} f g (x ∷ xs) = ap (λ (rest : List Z). g (f x) ∷ rest) (map-twice f g xs)
 
-pub groups-have : (d : Domain) (column : ℕ) (texts : List (List ℕ)) (v : Value) → HasColumn d column → Fits d → Has d v
-    → All (Has d) (groups_of column texts v)
-groups-have (domain.Rows columns) column texts v within fits has =
-    All-map (Has (domain.Rows columns)) (λ text. filter_value column text v) texts
-    (λ k e below. (filter_law column (get_or texts k e) columns metrics.Symmetric fits).lands v has)
-groups-have d column texts v within fits has = absurd within
-
--- the same of the values as code has them
-pub inputs-have : (d : Domain) (column : ℕ) (texts : List (List ℕ)) (v : Value) (rows slice : List (List (List ℕ)))
-    (values groups : List Value) → HasColumn d column → Fits d → Has d v → v ≡ value.Rows rows → slice ≡ rows → groups ≡ values
-    → values ≡ groups_of column texts (value.Rows slice) → All (Has d) groups
+-- the groups as code has them
+pub inputs-have : (d : Domain) (column : ℕ) (texts : List (List ℕ)) (v : Value) (rows slice : Records)
+    (values groups : List Value) → HasColumn d column → Fits d → Has d v → v ≡ value.Rows rows → slice ≡ rows
+    → groups ≡ values → values ≡ groups_of column texts (value.Rows slice) → All (Has d) groups
 inputs-have d column texts v rows slice values groups within fits has is same stands made =
     let source : value.Rows slice ≡ v = ap value.Rows same ∙ sym is in
     let whole : groups ≡ groups_of column texts v = stands ∙ made ∙ ap (groups_of column texts) source in

@@ -18,21 +18,23 @@ use Rattle.dp_domain.specs.Domains.{few_and_one}
 use Rattle.dp_group.specs.Grouped.{are_group_texts}
 use Rattle.dp_group.specs.GroupedProof.{both-true}
 
-neither : (a b : Bool) → (a || b) ≡ false → (a ≡ false) × (b ≡ false)
+pub neither : (a b : Bool) → (a || b) ≡ false → (a ≡ false) × (b ≡ false)
 neither true b h = absurd cc
 neither false b h = (refl, h)
 
-none-at : (p : List ℕ → Bool) (texts : List (List ℕ)) (i : ℕ) (d : List ℕ) → list_any p texts ≡ false → i < length texts → p (get_or texts i d) ≡ false
+none-at : (p : List ℕ → Bool) (texts : List (List ℕ)) (i : ℕ) (d : List ℕ) → list_any p texts ≡ false
+    → i < length texts → p (get_or texts i d) ≡ false
 none-at p [] i d h below = absurd (omega arith)
 none-at p (text ∷ texts) zero d h below = (neither (p text) (list_any p texts) h).0
 none-at p (text ∷ texts) (suc i) d h below = none-at p texts i d (neither (p text) (list_any p texts) h).1 (omega arith)
 
-not-true : (b : Bool) → not b ≡ true → b ≡ false
+pub not-true : (b : Bool) → not b ≡ true → b ≡ false
 not-true true h = absurd cc
 not-true false h = refl
 
 -- each of different texts stands at its own place
-different-place : (texts : List (List ℕ)) (i : ℕ) (d : List ℕ) → are_different texts ≡ true → i < length texts → place_in texts (get_or texts i d) ≡ i
+different-place : (texts : List (List ℕ)) (i : ℕ) (d : List ℕ) → are_different texts ≡ true → i < length texts
+    → place_in texts (get_or texts i d) ≡ i
 unfolding are_different
 different-place [] i d h below = absurd (omega arith)
 different-place (text ∷ texts) zero d h below = rw ((text_eq-decides text text).1 refl) refl
@@ -45,23 +47,29 @@ different-place (text ∷ texts) (suc i) d h below =
     rw apart (omega arith)
 
 -- categories of different texts tell the texts
-same-texts : (xs ys : List (List ℕ)) → are_different xs ≡ true → categories_mapping xs ≡ categories_mapping ys → xs ≡ ys
+same-texts : (xs ys : List (List ℕ)) → are_different xs ≡ true → categories_mapping xs ≡ categories_mapping ys
+    → xs ≡ ys
 same-texts xs ys different same =
-    let domains : domain.Cats (length xs + 1) None ≡ domain.Cats (length ys + 1) None = ap (λ (m : Mapping). m.output_domain) same in
+    let domains : domain.Cats (length xs + 1) None ≡ domain.Cats (length ys + 1) None =
+    ap (λ (m : Mapping). m.output_domain) same in
     let lengths : length xs + 1 ≡ length ys + 1 = cc in
     let places : (text : List ℕ) → place_in xs text ≡ place_in ys text =
-    λ text. let at : value.Cats (place_in xs text ∷ []) ≡ value.Cats (place_in ys text ∷ []) = ap (λ (m : Mapping). m.function (value.Texts (text ∷ []))) same in cc in
+    λ text.
+    let at : value.Cats (place_in xs text ∷ []) ≡ value.Cats (place_in ys text ∷ []) =
+    ap (λ (m : Mapping). m.function (value.Texts (text ∷ []))) same in
+    cc in
     ext_get_or [] xs ys (omega arith) (λ i below.
     let text = get_or xs i [] in
     let place : place_in ys text ≡ i = sym (places text) ∙ different-place xs i [] different below in
     let there = passes_at_first (text_eq text) ys [] (omega arith) in
-    let passes : text_eq text (get_or ys i []) ≡ true = subst (λ (k : ℕ). text_eq text (get_or ys k []) ≡ true) place there in
+    let passes : text_eq text (get_or ys i []) ≡ true =
+    subst (λ (k : ℕ). text_eq text (get_or ys k []) ≡ true) place there in
     (text_eq-decides text (get_or ys i [])).0 passes)
 
 -- a constructor of categories is one of tables of the texts of groups
 pub table-made : {T : Type 0} (mapping : T → Mapping) (texts_in : T → List (List ℕ))
-    → ((t : T) → mapping t ≡ categories_mapping (texts_in t)) → (texts : List (List ℕ)) (good : Bool) → are_group_texts texts ≡ good
-    → (result : Result T MakeFault) → MakesOr mapping result (tested true good (categories_mapping texts))
+    → ((t : T) → mapping t ≡ categories_mapping (texts_in t)) → (texts : List (List ℕ)) (good : Bool)
+    → are_group_texts texts ≡ good → (result : Result T MakeFault) → MakesOr mapping result (tested true good (categories_mapping texts))
     → MakesOr texts_in result (tested true good texts)
 table-made mapping texts_in told texts true good (Ok t) h =
     let parts = both-true (few_and_one (length texts)) (are_different texts) good in

@@ -1,5 +1,5 @@
 -- One measurement on each group of records, where a group is the records that have one text in a column.
-use Rattle.std.specs.Prelude.{ℕ, ◌*◌, ◌==◌, ◌&&◌, Bool, true, List, [], ◌∷◌, ◌++◌, map, length, take, drop, Option, Some, None, Result, Err, if◌then◌else◌, nat_lt, option_and_then}
+use Rattle.std.specs.Prelude.{ℕ, ◌*◌, ◌==◌, ◌&&◌, Bool, true, List, [], ◌∷◌, ◌++◌, map, length, take, drop, Option, Some, Result, Err, if◌then◌else◌, nat_lt, option_and_then}
 use Rattle.std.specs.List.{repeat}
 use Rattle.dp_num.specs.Limits.{capped}
 use Rattle.dp_domain.specs.Domains.{few_and_one}
@@ -13,7 +13,12 @@ use Rattle.dp_law.specs.declared.refusals.Refused.TheVariants as refused
 use Rattle.dp_law.specs.Making.{tested, is_symmetric}
 use Rattle.dp_law.specs.Mechanism.{Mechanism}
 use Rattle.dp_rowwise.specs.Categories.{are_different}
+use Rattle.dp_rowwise.specs.Columns.{HasColumn}
 use Rattle.dp_rowwise.specs.Filter.{filter_value}
+
+-- the measurement takes records that have the column, counted from 0
+abbrev pub TakesColumn : Mechanism → ℕ → Type 0
+TakesColumn m column = HasColumn m.input_domain column
 
 -- for each text the records whose cell in the column is the text, in order; records of no text are in no group
 abbrev pub groups_of : ℕ → List (List ℕ) → Value → List Value

@@ -1,5 +1,7 @@
-pub mod Buckets
+pub mod AnswersProof
+pub mod ColumnProof
 pub mod Grouped
 pub mod GroupedLaw
 pub mod GroupedProof
-pub mod Single
+pub mod OneMore
+pub mod StepsProof

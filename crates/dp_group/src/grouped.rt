@@ -4,10 +4,9 @@ ghost use Rattle.dp_domain.specs.Domains.{Has};
 ghost use Rattle.dp_domain.specs.declared.metrics.Metric.TheVariants as metrics;
 ghost use Rattle.dp_law.specs.Making.{MakesOr};
 ghost use Rattle.dp_law.specs.Releasing.{Released, ReleaseCause};
-ghost use Rattle.dp_rowwise.specs.Columns.{HasColumn};
 ghost use Rattle.dp_rowwise.specs.Parts.{category_texts};
-ghost use Rattle.dp_group.specs.Grouped.{answers_on, are_group_texts, grouped_on};
-ghost use Rattle.dp_group.specs.Single.{HasColumn-prop};
+ghost use Rattle.dp_group.specs.Grouped.{TakesColumn, answers_on, are_group_texts, grouped_on};
+ghost use Rattle.dp_group.specs.ColumnProof.{TakesColumn-prop};
 
 use crate::groups::{count_of, groups_of, table_of};
 use dp_count::{NoMemory, Shape};
@@ -27,7 +26,7 @@ pub struct Grouped<M: Measurement> {
     inner: M,
     column: u32,
     texts: Categories,
-    ghost has_column: { let m = M.mechanism inner in HasColumn m.input_domain column } by { let m = M.mechanism inner in HasColumn-prop m.input_domain column },
+    ghost takes_column: { TakesColumn (M.mechanism inner) column } by { TakesColumn-prop (M.mechanism inner) column },
     ghost symmetric: { let m = M.mechanism inner in m.input_metric ≡ metrics.Symmetric },
     ghost nothing_at_0: { let m = M.mechanism inner in m.privacy_map 0 ≡ Some 0 },
     ghost few_draws: { let m = M.mechanism inner in length m.shape ≤ 2 ^ 20 },
@@ -119,7 +118,7 @@ impl<M: Measurement> Measurement for Grouped<M> {
 
     ghost law = { λ m. grouped_law m.column (category_texts m.texts) (M.mechanism m.inner)
         record { private = M.law m.inner; symmetric = m.symmetric; nothing_at_0 = m.nothing_at_0 }
-        m.has_column m.few_draws m.few_pieces m.are_texts };
+        m.takes_column m.few_draws m.few_pieces m.are_texts };
 }
 
 /// The bounds of the shape so many times.

@@ -1,9 +1,7 @@
-use Rattle.std.proofs.Common.{◌≡◌, ◌+◌, ◌≤◌, ◌<◌, ◌∷◌, ◌++◌, ℕ, drop, length, ap, sym, subst, ◌∙◌, arith, vec_len, vec_capacity, List}
+use Rattle.std.proofs.Common.{◌≡◌, ◌+◌, ◌++◌, drop, length, ap, ◌∙◌, arith}
 use Rattle.std.proofs.lemmas.Result.{err_from_is_err_and}
 use Rattle.std.proofs.lemmas.List.{drop_all}
-use Rattle.dp_domain.specs.declared.values.Value.{Value}
-use Rattle.dp_law.specs.declared.pieces.Piece.{Piece}
-use Rattle.dp_group.proofs.EachRelease.{LeadsOn, leads-stop, leads-next, leads-memory, leads-last, part-whole, next-value, value-has}
+use Rattle.dp_group.proofs.EachRelease.{leads-stop, leads-next, leads-memory, leads-last, part-whole, next-value, value-has}
 use Rattle.dp_group.proofs.grouped.release_each.Goals as goal
 
 pub returns-in_err-reserve-clause-released : goal.returns-in_err-reserve-clause-released

@@ -1,4 +1,4 @@
-use Rattle.std.proofs.Common.{map, ap, ◌∙◌, ◌≡◌, List}
+use Rattle.std.proofs.Common.{map, ap, ◌∙◌, ◌≡◌}
 use Rattle.std.proofs.lemmas.Result.{IfOk-weaker}
 use Rattle.dp_domain.specs.Distance.{text_eq}
 use Rattle.dp_domain.specs.Users.{cell, group}

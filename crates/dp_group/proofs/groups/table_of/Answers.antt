@@ -5,4 +5,6 @@ use Rattle.dp_group.proofs.GroupTexts.{table-made}
 use Rattle.dp_group.proofs.groups.table_of.Goals as goal
 
 pub returns : goal.returns
-returns c = table-made _ category_texts (λ t. refl) c.args.texts (are_group_texts c.args.texts) refl c.new.result c.new.ensures
+returns c =
+    let texts = c.args.texts in
+    table-made _ category_texts (λ t. refl) texts (are_group_texts texts) refl c.new.result c.new.ensures

@@ -1,4 +1,4 @@
-use Rattle.dp_group.specs.GroupedProof.{order_law, steps_law}
+use Rattle.dp_group.specs.StepsProof.{order_law, steps_law}
 use Rattle.dp_group.proofs.laws.steps_law.Goals as goal
 
 pub returns-clause-order : goal.returns-clause-order
