@@ -16,7 +16,7 @@ use Rattle.dp_runner.specs.declared.stop.Stop.TheVariants as stop
 use Rattle.dp_runner.specs.Account.{accounted}
 use Rattle.dp_runner.specs.Outcome.{Source, Outcome}
 use Rattle.dp_runner.specs.WrittenLines.{are_lines}
-use Rattle.dp_runner.proofs.Lines.{IsEnded, ended-more, ended-lines}
+use Rattle.dp_runner.specs.WrittenLinesProof.{IsEnded, ended-more, ended-lines}
 
 -- ---- each text is a line
 

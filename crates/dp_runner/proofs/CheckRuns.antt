@@ -18,7 +18,7 @@ use Rattle.dp_runner.specs.Outcome.{Source, or_stop, written_last}
 use Rattle.dp_runner.specs.Pipelines.{pipeline_at, or_refused, IsNumber}
 use Rattle.dp_runner.specs.WrittenLines.{are_lines}
 use Rattle.dp_runner.proofs.FormRuns.{form-done}
-use Rattle.dp_runner.proofs.Lines.{last-line}
+use Rattle.dp_runner.specs.WrittenLinesProof.{last-line}
 use Rattle.dp_runner.proofs.Refusals.{refusal-number}
 use Rattle.dp_runner.proofs.WritesLast.{done-written}
 

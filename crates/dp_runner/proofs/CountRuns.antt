@@ -19,7 +19,7 @@ use Rattle.dp_runner.specs.Causes.{Runs}
 use Rattle.dp_runner.specs.WrittenLines.{are_lines}
 use Rattle.dp_runner.specs.Laws.{IsDone}
 use Rattle.dp_runner.proofs.FormRuns.{form-done}
-use Rattle.dp_runner.proofs.Lines.{lines-after}
+use Rattle.dp_runner.specs.WrittenLinesProof.{lines-after}
 use Rattle.dp_runner.proofs.Steps.{bind-ok, bind-err}
 use Rattle.dp_runner.proofs.CountSteps.{count-taken, file-read}
 use Rattle.dp_runner.proofs.WritesLast.{runs-all, done-written}

@@ -1,11 +1,13 @@
 pub mod AccountRuns
-pub mod AccountSteps
 pub mod AccountTexts
+pub mod AnswererSteps
+pub mod AnsweringEnds
+pub mod AnsweringSteps
+pub mod AnsweringTexts
 pub mod CheckRuns
 pub mod CountRuns
 pub mod CountSteps
 pub mod FormRuns
-pub mod Lines
 pub mod PipelineSteps
 pub mod Refusals
 pub mod RunEnds
