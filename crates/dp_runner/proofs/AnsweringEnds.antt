@@ -7,7 +7,7 @@ use Rattle.dp_count.specs.Faults.{Rose}
 use Rattle.dp_draws.specs.Taking.{Turn, take_draws}
 use Rattle.dp_io.specs.declared.faults.LineFault.{LineFault}
 use Rattle.dp_io.specs.declared.faults.LineFault.TheVariants as line_fault
-use Rattle.dp_io.specs.Lines.{first_line}
+use Rattle.dp_io.specs.Lines.{first_line, after_first_line}
 use Rattle.dp_io.specs.Sink.{appended, AddsFront}
 use Rattle.dp_law.specs.Releasing.{TakesFront}
 use Rattle.dp_session.specs.Sessions.{Drawing, Gives}
@@ -118,10 +118,13 @@ front-joined : (before after last shape front rest more draws ds : List ℕ) (st
     → take_draws step before shape ≡ record { draws = Some draws; last = after }
     → take_draws step after front ≡ record { draws = Some ds; last = last }
     → TakesFront step (shape ++ ((front ++ rest) ++ more)) before last
-front-joined before after last shape front rest more draws ds step one two =
-    (shape ++ front, rest ++ more, draws ++ ds,
-    ap (λ b. shape ++ b) (append_assoc front rest more) ∙ sym (append_assoc shape front (rest ++ more)),
-    taken-both step before after last shape front draws ds one two)
+front-joined before after last shape front rest more draws ds step one two = (
+  shape ++ front,
+  rest ++ more,
+  draws ++ ds,
+  ap (λ b. shape ++ b) (append_assoc front rest more) ∙ sym (append_assoc shape front (rest ++ more)),
+  taken-both step before after last shape front draws ds one two,
+)
 
 -- the draws of the lines so far, and then some first part of those of the next
 taken-next : (stands : List (List ℕ) → Type 0) (answering : Answering) (source : Drawing) (last line : List ℕ)
@@ -134,8 +137,10 @@ taken-next stands answering source last line start left old held turn before aft
     told-taken stands answering source last start left old held turn before s
     (λ text is. let first = is_first text is in
     let short : length (first_line text) ≤ 65536 = rw first.line_is at first.short in
-    rw (one, shape-line answering after s.past text first.some short, (← first.line_is), front.3)
-    (front-joined source.before source.after last s.shape front.0 front.1 (shape_to_come answering after _ _) s.draws front.2 source.step s.taken front.4))
+    let split : (answering.slot s.past (first_line text)).shape ≡ front.0 ++ front.1 = rw first.line_is at front.3 in
+    rw (one, shape-line answering after s.past text first.some short, split)
+    (front-joined source.before source.after last s.shape front.0 front.1
+    (shape_to_come answering after (first_line text ∷ s.past) (after_first_line text)) s.draws front.2 source.step s.taken front.4))
 
 all-taken : (source : Drawing) (shape draws : List ℕ) → Gives source shape (Some draws) → TakesFront source.step shape source.before source.after
 all-taken source shape draws taken = (shape, [], draws, sym (append-nil shape), taken)

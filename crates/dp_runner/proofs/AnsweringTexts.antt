@@ -44,10 +44,11 @@ unfolding to_come line_slots run_slots
 to_come-line step answering most past text state after draws some short taken =
     let slot : Slot (List ℕ) = answering.slot past (first_line text) in
     let rest : List ℕ → Ran =
-        run_slots step (line_slots answering.slot (first_line text ∷ past) (lines_within most (after_first_line text))) in
+    run_slots step (line_slots answering.slot (first_line text ∷ past) (lines_within most (after_first_line text))) in
+    let end : List ℕ = answering.last_line (reverse_aux (lines_within most (after_first_line text)) (first_line text ∷ past)) in
     rw (over-first most text some short, within-first most text some short)
-    (ap (λ t. ends (after_taken t slot.out rest) (has_line_over most (after_first_line text)) _) taken
-    ∙ ends-more (slot.out draws) (rest after) (has_line_over most (after_first_line text)) _)
+    (ap (λ t. ends (after_taken t slot.out rest) (has_line_over most (after_first_line text)) end) taken
+    ∙ ends-more (slot.out draws) (rest after) (has_line_over most (after_first_line text)) end)
 
 -- a first line whose draws are not given
 pub to_come-fails : (step : List ℕ → ℕ → Turn) (answering : Answering) (most : ℕ) (past : List (List ℕ)) (text state after : List ℕ)
@@ -58,9 +59,10 @@ unfolding to_come line_slots run_slots
 to_come-fails step answering most past text state after some short failed =
     let slot : Slot (List ℕ) = answering.slot past (first_line text) in
     let rest : List ℕ → Ran =
-        run_slots step (line_slots answering.slot (first_line text ∷ past) (lines_within most (after_first_line text))) in
+    run_slots step (line_slots answering.slot (first_line text ∷ past) (lines_within most (after_first_line text))) in
+    let end : List ℕ = answering.last_line (reverse_aux (lines_within most (after_first_line text)) (first_line text ∷ past)) in
     rw (over-first most text some short, within-first most text some short)
-    (ap (λ t. ends (after_taken t slot.out rest) (has_line_over most (after_first_line text)) _) failed)
+    (ap (λ t. ends (after_taken t slot.out rest) (has_line_over most (after_first_line text)) end) failed)
 
 -- no line any more: the last line
 pub to_come-none : (step : List ℕ → ℕ → Turn) (answering : Answering) (most : ℕ) (past : List (List ℕ)) (text state : List ℕ) → text ≡ []

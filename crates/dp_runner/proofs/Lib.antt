@@ -7,10 +7,12 @@ pub mod AnsweringTexts
 pub mod CheckRuns
 pub mod CountRuns
 pub mod CountSteps
+pub mod FileRuns
 pub mod FormRuns
 pub mod PipelineSteps
 pub mod Refusals
 pub mod RunEnds
+pub mod Runs
 pub mod Steps
 pub mod WordForms
 pub mod WritesLast
