@@ -13,6 +13,7 @@ pub mod PipelineSteps
 pub mod Refusals
 pub mod RunEnds
 pub mod Runs
+pub mod SessionRuns
 pub mod Steps
 pub mod WordForms
 pub mod WritesLast

@@ -1,6 +1,6 @@
 -- The commands that answer queries on data: `run P DATA QUERIES`, `replay P DATA QUERIES DRAWS` and
 -- `rehearse P DATA QUERIES SEED`.
-use Rattle.std.specs.Prelude.{ℕ, ◌&&◌, ◌^◌, ◌++◌, true, false, List, [], ◌∷◌, replicate, Option, Some, None, Result, Ok, Err, if◌then◌else◌, option_map, codes}
+use Rattle.std.specs.Prelude.{ℕ, ◌&&◌, ◌^◌, ◌++◌, true, false, List, [], ◌∷◌, replicate, Option, Some, None, Result, Ok, Err, if◌then◌else◌, option_map, option_and_then, codes}
 use Rattle.std.specs.Int.{w64, to_le_bytes}
 use Rattle.dp_count.specs.Digits.{short_decimal}
 use Rattle.dp_count.specs.Results.{◌>>=◌}
@@ -45,14 +45,14 @@ pub record ReplayForm : Type 0 where
   pub draws_name : List ℕ
 
 -- the same three files, and a fourth, if a word names it
-abbrev pub replay_form_of : Option SessionForm → List ℕ → Option ReplayForm
-replay_form_of session draws_name = if is_file_name draws_name
-    then option_map (λ words. record { session = words; draws_name = draws_name }) session
-    else None
+abbrev pub replay_form_of : SessionForm → List ℕ → Option ReplayForm
+replay_form_of session draws_name =
+    if is_file_name draws_name then Some (record { session = session; draws_name = draws_name }) else None
 
 unfoldable pub replay_form : List (List ℕ) → Option ReplayForm
 replay_form (pipeline_name ∷ data_name ∷ queries_name ∷ draws_name ∷ []) =
-    replay_form_of (session_form_of pipeline_name data_name queries_name) draws_name
+    option_and_then (λ session. replay_form_of session draws_name)
+    (session_form_of pipeline_name data_name queries_name)
 replay_form _ = None
 
 -- what the words after `rehearse` say
@@ -61,14 +61,13 @@ pub record RehearseForm : Type 0 where
   pub seed : ℕ
 
 -- the same three files, and the number that 1 to 19 digits spell
-abbrev pub rehearse_form_of : Option SessionForm → List ℕ → Option RehearseForm
-rehearse_form_of None seed = None
-rehearse_form_of (Some session) seed =
+abbrev pub rehearse_form_of : SessionForm → List ℕ → Option RehearseForm
+rehearse_form_of session seed =
     option_map (λ number. record { session = session; seed = number }) (short_decimal 19 seed)
 
 unfoldable pub rehearse_form : List (List ℕ) → Option RehearseForm
 rehearse_form (pipeline_name ∷ data_name ∷ queries_name ∷ seed ∷ []) =
-    rehearse_form_of (session_form_of pipeline_name data_name queries_name) seed
+    option_and_then (λ session. rehearse_form_of session seed) (session_form_of pipeline_name data_name queries_name)
 rehearse_form _ = None
 
 -- ---- the data

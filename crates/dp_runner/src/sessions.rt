@@ -152,14 +152,12 @@ pub(crate) fn replay_form(words: &[String]) -> Option<ReplayForm<'_>>
     let [pipeline_name, data_name, queries_name, draws_name] = words else {
         return None;
     };
-    replay_form_of(
-        session_form_of(
-            pipeline_name.as_str(),
-            data_name.as_str(),
-            queries_name.as_str(),
-        ),
-        draws_name.as_str(),
-    )
+    let session = session_form_of(
+        pipeline_name.as_str(),
+        data_name.as_str(),
+        queries_name.as_str(),
+    )?;
+    replay_form_of(session, draws_name.as_str())
 }
 
 /// What the words after `rehearse` say, if they are of its form.
@@ -169,14 +167,12 @@ pub(crate) fn rehearse_form(words: &[String]) -> Option<RehearseForm<'_>>
     let [pipeline_name, data_name, queries_name, seed] = words else {
         return None;
     };
-    rehearse_form_of(
-        session_form_of(
-            pipeline_name.as_str(),
-            data_name.as_str(),
-            queries_name.as_str(),
-        ),
-        seed.as_str(),
-    )
+    let session = session_form_of(
+        pipeline_name.as_str(),
+        data_name.as_str(),
+        queries_name.as_str(),
+    )?;
+    rehearse_form_of(session, seed.as_str())
 }
 
 /// Three files, if three words name them.
@@ -199,12 +195,11 @@ fn session_form_of<'a>(
 
 /// Three files and a fourth, if a word names it.
 fn replay_form_of<'a>(
-    session: Option<SessionForm<'a>>,
+    session: SessionForm<'a>,
     draws_name: &'a str,
 ) -> Option<ReplayForm<'a>>
-    ensures { result ≡ replay_form_of session draws_name.now }
+    ensures { result ≡ replay_form_of session.entry draws_name.now }
 {
-    let session = session?;
     if draws_name.is_empty() {
         return None;
     }
@@ -215,10 +210,9 @@ fn replay_form_of<'a>(
 }
 
 /// Three files and a seed, if a word spells one.
-fn rehearse_form_of<'a>(session: Option<SessionForm<'a>>, seed: &str) -> Option<RehearseForm<'a>>
-    ensures { result ≡ rehearse_form_of session seed.now }
+fn rehearse_form_of<'a>(session: SessionForm<'a>, seed: &str) -> Option<RehearseForm<'a>>
+    ensures { result ≡ rehearse_form_of session.entry seed.now }
 {
-    let session = session?;
     let seed = short_decimal(seed.as_bytes(), SEED_DIGITS)?;
     Some(RehearseForm { session, seed })
 }
@@ -360,6 +354,7 @@ fn session_of<S: Shelf>(
         (S.faults shelf.old) (S.faults shelf.new) }
     ensures stands { IfOk result (λ session.
         IsSessionAt session session.queries.pipeline session.store.records []) }
+    ensures no_draw_fault { result ≢ Err Stop.DrawFault }
     ensures later { S.faults shelf.old ≤ S.faults shelf.new }
     ensures kept { Kept result (S.faults shelf.old) (S.faults shelf.new) }
     ensures opens { S.slots shelf.new ≤ S.slots shelf.old + 2 }
@@ -381,6 +376,7 @@ fn records_of<S: Shelf>(
     ensures answers { Answers result (stored pipeline.now) (S.files shelf.old)
         (λ files. file_records files name.now pipeline.now) (S.faults shelf.old) (S.faults shelf.new) }
     ensures columns { IfOk result (λ store. store.columns ≡ length pipeline.now.columns) }
+    ensures no_draw_fault { result ≢ Err Stop.DrawFault }
     ensures later { S.faults shelf.old ≤ S.faults shelf.new }
     ensures kept { Kept result (S.faults shelf.old) (S.faults shelf.new) }
     ensures opens { S.slots shelf.new ≤ S.slots shelf.old + 1 }
