@@ -60,5 +60,5 @@ pub account-done : (words : List (List ℕ)) (files : Files) (source : Source) (
     → IsDone (outcome words files source)
     (account_lines content [] (lines_of queries) ++ end_line (length (lines_of queries)) (units content (lines_of queries))) source.state
 account-done words files source account text queries content is has_text is_pipeline has_queries none =
-    form-done words (form.Account account) files source _ is
+    form-done words (form.Account account) files source _ source.state is
     (rw (account-complete account files source text queries content has_text is_pipeline has_queries) (accounted-all source content queries none))
