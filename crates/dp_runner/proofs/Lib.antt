@@ -15,5 +15,6 @@ pub mod RunEnds
 pub mod Runs
 pub mod SessionRuns
 pub mod Steps
+pub mod Transcripts
 pub mod WordForms
 pub mod WritesLast

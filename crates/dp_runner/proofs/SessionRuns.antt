@@ -10,7 +10,7 @@ use Rattle.dp_store.specs.Stores.{StoreValue}
 use Rattle.dp_runner.specs.declared.stop.Stop.{Stop}
 use Rattle.dp_runner.specs.Answering.{file_shape}
 use Rattle.dp_runner.specs.Pipelines.{pipeline_at}
-use Rattle.dp_runner.specs.Sessions.{SessionForm, Opened, stored, opened_by, file_records, opened, on_records, shape_on, run_shape}
+use Rattle.dp_runner.specs.Sessions.{SessionForm, Opened, stored, opened_by, file_records, opened, on_records, shape_on, form_shape}
 use Rattle.dp_runner.proofs.Steps.{bind-ok, bind-err}
 
 -- the pipeline's file decides
@@ -40,7 +40,7 @@ opened-both session pipeline store past h =
 pub run-taken : (step : List ℕ → ℕ → Turn) (before after : List ℕ) (form : SessionForm) (told : Option Files) (found : Opened)
     → ForSome told (λ files. opened form files ≡ Ok found)
     → ForSome told (λ files. TakesFront step (file_shape (on_records found) files form.queries_name) before after)
-    → ForSome told (λ files. TakesFront step (run_shape form files) before after)
-unfolding run_shape
+    → ForSome told (λ files. TakesFront step (form_shape form files) before after)
+unfolding form_shape
 run-taken step before after form told found read h = λ files is.
     subst (λ shape. TakesFront step shape before after) (sym (ap (shape_on form files) (read files is))) (h files is)

@@ -116,8 +116,8 @@ abbrev pub shape_on : SessionForm → Files → Result Opened Stop → List ℕ
 shape_on form files (Ok found) = file_shape (on_records found) files form.queries_name
 shape_on form files (Err reason) = []
 
-unfoldable pub run_shape : SessionForm → Files → List ℕ
-run_shape form files = shape_on form files (opened form files)
+unfoldable pub form_shape : SessionForm → Files → List ℕ
+form_shape form files = shape_on form files (opened form files)
 
 -- `replay`: by the numbers that the file of draws spells, which is read after the data
 unfoldable pub replay_outcome : ReplayForm → Files → Source → Outcome
@@ -152,7 +152,7 @@ run_command form = record {
   files = 3;
   writes_last = false;
   keeps_source = false;
-  shape = run_shape form;
+  shape = form_shape form;
 }
 
 abbrev pub replay_command : ReplayForm → Command

@@ -7,7 +7,7 @@ ghost use Rattle.dp_law.specs.Releasing.{TakesFront};
 ghost use Rattle.dp_session.specs.Sessions.{IsSessionAt};
 ghost use Rattle.dp_runner.specs.Causes.{Answers, Kept, Runs};
 ghost use Rattle.dp_runner.specs.Outcome.{Source, source_at};
-ghost use Rattle.dp_runner.specs.Sessions.{run_form, replay_form, rehearse_form, session_form_of, replay_form_of, rehearse_form_of, opened, opened_by, stored, file_records, run_outcome, run_shape, replay_outcome, rehearse_outcome, seed_bytes};
+ghost use Rattle.dp_runner.specs.Sessions.{run_form, replay_form, rehearse_form, session_form_of, replay_form_of, rehearse_form_of, opened, opened_by, stored, file_records, run_outcome, form_shape, replay_outcome, rehearse_outcome, seed_bytes};
 ghost use Rattle.dp_runner.specs.Stops.{row_of, is_silent};
 
 use crate::answering::answer_file;
@@ -229,7 +229,7 @@ pub(crate) fn run_session<S: Shelf, D: Draws, K: Sink>(
         (λ files. run_outcome form.now files (source_at D.step (D.state draws.old)))
         (S.faults shelf.old) (S.faults shelf.new) (K.held out.old) (K.held out.new) (D.state draws.new) }
     ensures taken { result ≢ Err Stop.DrawFault → ForSome (S.files shelf.old) (λ files.
-        TakesFront D.step (run_shape form.now files) (D.state draws.old) (D.state draws.new)) }
+        TakesFront D.step (form_shape form.now files) (D.state draws.old) (D.state draws.new)) }
     ensures no_usage { result ≢ Err Stop.Usage }
     ensures silent { IfErr result (λ reason.
         IsTrue (is_silent (row_of reason).status) → K.held out.new ≡ K.held out.old) }

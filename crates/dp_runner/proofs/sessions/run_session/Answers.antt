@@ -2,7 +2,7 @@ use Rattle.std.proofs.Common.{arith}
 use Rattle.std.proofs.lemmas.Result.{err_from_is_err_and}
 use Rattle.dp_io.specs.Shelf.{Files}
 use Rattle.dp_runner.specs.Outcome.{source_at}
-use Rattle.dp_runner.specs.Sessions.{Opened, opened, opened_by, queried, run_outcome, run_shape}
+use Rattle.dp_runner.specs.Sessions.{Opened, opened, opened_by, queried, run_outcome, form_shape}
 use Rattle.dp_runner.proofs.FileRuns.{none-taken}
 use Rattle.dp_runner.proofs.Runs.{runs-unread, runs-after}
 use Rattle.dp_runner.proofs.SessionRuns.{run-taken}
@@ -19,7 +19,7 @@ returns-in_err-session-clause-runs g c =
 
 pub returns-in_err-session-clause-taken : goal.returns-in_err-session-clause-taken
 returns-in_err-session-clause-taken g c = λ other files is.
-    none-taken g.D.Draws.step (run_shape c.args.form.now files) (g.D.Draws.state c.args.draws.now)
+    none-taken g.D.Draws.step (form_shape c.args.form.now files) (g.D.Draws.state c.args.draws.now)
 
 pub returns-clause-runs : goal.returns-clause-runs
 unfolding run_outcome
