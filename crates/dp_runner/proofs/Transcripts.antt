@@ -1,6 +1,7 @@
 -- A session whose source gives all draws of its queries writes their transcript.
 use Rattle.std.proofs.Common.{◌≡◌, ◌∙◌, ◌≤◌, ◌^◌, ℕ, true, false, List, [], ◌∷◌, ◌++◌, length, take, drop, Option, Some, None, option_map, Ok, refl, sym, ap, arith}
 use Rattle.std.specs.Prelude.{reverse, codes}
+use mathlib.Core.List.{reverse_aux}
 use Rattle.std.specs.List.{concat}
 use Rattle.std.proofs.lemmas.List.{length-reverse, take-append-le, take_all, drop-append-le, drop_all}
 use Rattle.dp_count.specs.Results.{◌>>=◌}
@@ -10,7 +11,7 @@ use Rattle.dp_draws.specs.Numbers.{drawn_numbers}
 use Rattle.dp_draws.specs.Sources.{replay_step}
 use Rattle.dp_draws.specs.Taking.{Turn, Taken, take_draws}
 use Rattle.dp_draws.proofs.Taking.{joining, take_draws-append, take_draws-length}
-use Rattle.dp_io.specs.Lines.{lines_of, has_line_over}
+use Rattle.dp_io.specs.Lines.{lines_of, lines_within, has_line_over}
 use Rattle.dp_io.specs.Shelf.{Files}
 use Rattle.dp_io.proofs.TextLines.{within-all}
 use Rattle.dp_pipeline.specs.declared.content.Content.{Content}
@@ -25,6 +26,7 @@ use Rattle.dp_runner.specs.Answering.{ends, answered, session_answering}
 use Rattle.dp_runner.specs.Forms.{form_of, outcome}
 use Rattle.dp_runner.specs.Laws.{IsDone, HasFiles, GivesAll, data_root}
 use Rattle.dp_runner.specs.Outcome.{Source, Outcome, source_at, or_stop, once_read, preceded_by, by_own_draws}
+use Rattle.dp_runner.specs.SessionLaws.{session_lines}
 use Rattle.dp_runner.specs.Sessions.{SessionForm, ReplayForm, RehearseForm, Opened, opened, file_records, queried, run_outcome, replay_outcome, rehearse_outcome, seeded}
 use Rattle.dp_runner.specs.Texts.{file_text, drawn}
 use Rattle.dp_runner.proofs.CountSteps.{file-read}
@@ -103,6 +105,32 @@ ran-all step (slot ∷ slots) state draws last e =
     (slot-bytes slot slots draws p.front p.rest p.split
     (take_draws-length step state slot.shape p.front (ap (λ (t : Taken). t.draws) p.first)))
 
+-- the draws of the slots before one are given, and its own not: those before are written
+ran-out : (step : List ℕ → ℕ → Turn) (before : List (Slot (List ℕ))) (slot : Slot (List ℕ)) (after : List (Slot (List ℕ)))
+    (state draws mid last : List ℕ)
+    → take_draws step state (joined_shape before) ≡ record { draws = Some draws; last = mid }
+    → take_draws step mid slot.shape ≡ record { draws = None; last = last }
+    → run_slots step (before ++ slot ∷ after) state ≡ record { bytes = concat (replies before draws); enough = false; last = last }
+unfolding run_slots joined_shape replies take_draws
+ran-out step [] slot after state draws mid last e failed =
+    let same : state ≡ mid = ap (λ (t : Taken). t.last) e in
+    ap (λ t. after_taken t slot.out (run_slots step after)) (ap (λ (s : List ℕ). take_draws step s slot.shape) same ∙ failed)
+ran-out step (one ∷ before) slot after state draws mid last e failed =
+    let p = parts step state one.shape (joined_shape before) draws mid e in
+    ap (λ t. after_taken t one.out (run_slots step (before ++ slot ∷ after))) p.first
+    ∙ ap (preceded (one.out p.front)) (ran-out step before slot after p.mid p.rest mid last p.second failed)
+    ∙ ap (λ b. let ran : Ran = record { bytes = b; enough = false; last = last } in ran)
+    (slot-bytes one before draws p.front p.rest p.split
+    (take_draws-length step state one.shape p.front (ap (λ (t : Taken). t.draws) p.first)))
+
+-- the slots of some lines, of one more and of others
+slots-append : (slot : List (List ℕ) → List ℕ → Slot (List ℕ)) (past before : List (List ℕ)) (line : List ℕ) (after : List (List ℕ))
+    → line_slots slot past (before ++ line ∷ after)
+    ≡ line_slots slot past before ++ slot (reverse_aux before past) line ∷ line_slots slot (line ∷ reverse_aux before past) after
+unfolding line_slots
+slots-append slot past [] line after = refl
+slots-append slot past (one ∷ before) line after = ap (λ slots. slot past one ∷ slots) (slots-append slot (one ∷ past) before line after)
+
 -- lines and replies have the same draws
 pub shapes-same : (pipeline : Content) (root : Value) (past lines : List (List ℕ))
     → joined_shape (line_slots (session_slot pipeline root) past lines) ≡ joined_shape (query_slots pipeline root past lines)
@@ -124,6 +152,38 @@ all-done source pipeline root lines draws last e =
     (ap (take_draws source.step source.state) (shapes-same pipeline root [] lines) ∙ e))
     ∙ ap (λ n. ends (record { bytes = concat (replies (line_slots (session_slot pipeline root) [] lines) draws); enough = true; last = last }) false
     (end_line n (root_spent pipeline (reverse lines)))) (length-reverse lines)
+
+-- the draws run out
+pub answered-out : (source : Source) (pipeline : Content) (root : Value) (text line : List ℕ) (before after : List (List ℕ)) (draws mid last : List ℕ)
+    → lines_within (2 ^ 20) text ≡ before ++ line ∷ after
+    → take_draws source.step source.state (run_shape pipeline root before) ≡ record { draws = Some draws; last = mid }
+    → take_draws source.step mid (query_shape (verdict pipeline (reverse before) line)) ≡ record { draws = None; last = last }
+    → answered source (session_answering pipeline root) text
+    ≡ record { bytes = session_lines pipeline root before draws; stop = Some stop.DrawFault; last = last }
+unfolding answered
+answered-out source pipeline root text line before after draws mid last is given failed =
+    let slot : List (List ℕ) → List ℕ → Slot (List ℕ) = session_slot pipeline root in
+    ap (λ ran. ends ran (has_line_over (2 ^ 20) text) ((session_answering pipeline root).last_line (reverse (lines_within (2 ^ 20) text))))
+    (ap (λ (lines : List (List ℕ)). run_slots source.step (line_slots slot [] lines) source.state) is
+    ∙ ap (λ (slots : List (Slot (List ℕ))). run_slots source.step slots source.state) (slots-append slot [] before line after)
+    ∙ ran-out source.step (line_slots slot [] before) (slot (reverse before) line) (line_slots slot (line ∷ reverse before) after)
+    source.state draws mid last
+    (ap (take_draws source.step source.state) (shapes-same pipeline root [] before) ∙ given) failed)
+
+-- a line is over
+pub answered-over : (source : Source) (pipeline : Content) (root : Value) (text draws last : List ℕ)
+    → has_line_over (2 ^ 20) text ≡ true
+    → take_draws source.step source.state (run_shape pipeline root (lines_within (2 ^ 20) text)) ≡ record { draws = Some draws; last = last }
+    → answered source (session_answering pipeline root) text
+    ≡ record { bytes = session_lines pipeline root (lines_within (2 ^ 20) text) draws; stop = Some stop.QueryLimit; last = last }
+unfolding answered
+answered-over source pipeline root text draws last over e =
+    let lines : List (List ℕ) = lines_within (2 ^ 20) text in
+    let end : List ℕ = (session_answering pipeline root).last_line (reverse lines) in
+    ap (λ o. ends (run_slots source.step (line_slots (session_slot pipeline root) [] lines) source.state) o end) over
+    ∙ ap (λ ran. ends ran true end)
+    (ran-all source.step (line_slots (session_slot pipeline root) [] lines) source.state draws last
+    (ap (take_draws source.step source.state) (shapes-same pipeline root [] lines) ∙ e))
 
 pub answered-all : (source : Source) (pipeline : Content) (root : Value) (text draws last : List ℕ) → has_line_over (2 ^ 20) text ≡ false
     → take_draws source.step source.state (run_shape pipeline root (lines_of text)) ≡ record { draws = Some draws; last = last }

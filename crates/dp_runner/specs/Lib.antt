@@ -9,6 +9,7 @@ pub mod Laws
 pub mod Outcome
 pub mod Pipelines
 pub mod RunClauses
+pub mod SessionLaws
 pub mod Sessions
 pub mod Stops
 pub mod Texts

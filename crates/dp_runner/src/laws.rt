@@ -1,5 +1,6 @@
 //! Where a run does its work. Each law is the contract of a function that does nothing.
 ghost use Rattle.dp_runner.specs.Laws.{CountLaw, CheckLaw, AccountLaw, RunLaw, ReplayLaw, RehearseLaw, RefusalLaw, LongLaw};
+ghost use Rattle.dp_runner.specs.SessionLaws.{RunsOutLaw, LimitLaw, TranscriptLaw};
 
 /// Where the words are of the form of `count`, its files are there and within their limits, and its draws are enough,
 /// the run writes the line of the answer and ends with 0.
@@ -36,6 +37,15 @@ pub fn replay_law()
 /// was.
 pub fn rehearse_law()
     ensures { RehearseLaw }
+{}
+
+/// A text of queries on data, by the draws of all queries taken in order: up to a query whose draws the source does not
+/// give, up to the first line that is over, or whole, with the end line. Each line is written by its own part of the
+/// draws, and the source is left where taking leaves it.
+pub fn session_law()
+    ensures runs_out { RunsOutLaw }
+    ensures limit { LimitLaw }
+    ensures transcript { TranscriptLaw }
 {}
 
 /// Where the words are of the form of `check`, its file is there and its text is refused with a number, the run writes
