@@ -194,10 +194,7 @@ fn session_form_of<'a>(
 }
 
 /// Three files and a fourth, if a word names it.
-fn replay_form_of<'a>(
-    session: SessionForm<'a>,
-    draws_name: &'a str,
-) -> Option<ReplayForm<'a>>
+fn replay_form_of<'a>(session: SessionForm<'a>, draws_name: &'a str) -> Option<ReplayForm<'a>>
     ensures { result ≡ replay_form_of session.entry draws_name.now }
 {
     if draws_name.is_empty() {
