@@ -2,10 +2,11 @@
 //! runner, and ends with the status that it answers.
 #![tactic(auto)]
 
-use dp_draws::NoDraws;
+use dp_draws::{ChaChaDraws, NoDraws};
 use dp_io::{FileShelf, StdSink};
 use dp_runner::{end_without_memory, run_words};
 use std::fs::File;
+use std::io::Read;
 use std::process::ExitCode;
 use std::{env, fs, io};
 
@@ -24,15 +25,33 @@ fn main(rt: HostRuntime) -> ExitCode {
         // A command line that is no text is of no form, as no words are.
         Err(_) => Vec::new(alloc),
     };
-    let status = run_words(
-        alloc,
-        &words,
-        &mut shelf,
-        &mut NoDraws::new(),
-        &mut out,
-        &mut err,
-    );
+    let status = match seed(&rt) {
+        Ok(seed) => run_words(
+            alloc,
+            &words,
+            &mut shelf,
+            &mut ChaChaDraws::new(seed),
+            &mut out,
+            &mut err,
+        ),
+        // Without a seed no draw is given.
+        Err(_) => run_words(
+            alloc,
+            &words,
+            &mut shelf,
+            &mut NoDraws::new(),
+            &mut out,
+            &mut err,
+        ),
+    };
     ExitCode::from(status)
+}
+
+/// The seed of the draws: 32 bytes of `/dev/urandom`.
+fn seed(rt: &HostRuntime) -> io::Result<[u8; 32]> {
+    let mut seed = [0; 32];
+    fs::open(rt, "/dev/urandom")?.read_exact(&mut seed)?;
+    Ok(seed)
 }
 
 /// Opens `/dev/null` for reading alone, so often that none of the three standard streams is free after it. A file that

@@ -18,7 +18,7 @@ use Rattle.dp_runner.specs.Outcome.{Source, or_stop, written_last}
 use Rattle.dp_runner.specs.Pipelines.{pipeline_at, or_refused, IsNumber}
 use Rattle.dp_runner.specs.WrittenLines.{are_lines}
 use Rattle.dp_runner.proofs.FormRuns.{form-done}
-use Rattle.dp_runner.proofs.Lines.{last-line}
+use Rattle.dp_runner.specs.WrittenLinesProof.{last-line}
 use Rattle.dp_runner.proofs.Refusals.{refusal-number}
 use Rattle.dp_runner.proofs.WritesLast.{done-written}
 
@@ -60,7 +60,7 @@ pub check-done : (words : List (List ℕ)) (files : Files) (source : Source) (ch
     → form_of words ≡ Some (form.Check check) → files check.pipeline_name ≡ Some text → accepted text ≡ Ok content
     → IsDone (outcome words files source) (check_text content) source.state
 check-done words files source check text content is has_text is_pipeline =
-    form-done words (form.Check check) files source _ is
+    form-done words (form.Check check) files source _ source.state is
     (done-written source (check_written check files) _ (check-complete check files text content has_text is_pipeline))
 
 -- a refused text ends the command

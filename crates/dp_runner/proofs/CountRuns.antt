@@ -19,7 +19,7 @@ use Rattle.dp_runner.specs.Causes.{Runs}
 use Rattle.dp_runner.specs.WrittenLines.{are_lines}
 use Rattle.dp_runner.specs.Laws.{IsDone}
 use Rattle.dp_runner.proofs.FormRuns.{form-done}
-use Rattle.dp_runner.proofs.Lines.{lines-after}
+use Rattle.dp_runner.specs.WrittenLinesProof.{lines-after}
 use Rattle.dp_runner.proofs.Steps.{bind-ok, bind-err}
 use Rattle.dp_runner.proofs.CountSteps.{count-taken, file-read}
 use Rattle.dp_runner.proofs.WritesLast.{runs-all, done-written}
@@ -69,5 +69,5 @@ pub count-done : (words : List (List ℕ)) (files : Files) (source : Source) (co
     → cell_draws count (drawn_numbers numbers) ≡ Some draws
     → IsDone (outcome words files source) (answer_line (cell_answer count (length (raw text)) draws)) source.state
 count-done words files source count text numbers draws is has_text short has_numbers few taken =
-    form-done words (form.Count count) files source _ is
+    form-done words (form.Count count) files source _ source.state is
     (done-written source (count_written count files) _ (count-complete count files text numbers draws has_text short has_numbers few taken))

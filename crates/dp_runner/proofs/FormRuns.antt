@@ -1,6 +1,9 @@
 -- A run of words of a form is a run of that form's command.
 use Rattle.std.proofs.Common.{◌≡◌, ℕ, true, false, IsTrue, List, Option, Some, Result, sym, subst}
+use Rattle.std.specs.Option.{ForSome}
+use Rattle.dp_draws.specs.Taking.{Turn}
 use Rattle.dp_io.specs.Shelf.{Files}
+use Rattle.dp_law.specs.Releasing.{TakesFront}
 use Rattle.dp_runner.specs.declared.form.Form.{Form}
 use Rattle.dp_runner.specs.declared.form.Form.TheVariants as form
 use Rattle.dp_runner.specs.declared.stop.Stop.{Stop}
@@ -26,8 +29,15 @@ account-early words account is last =
     cc
 
 -- what nothing stops in the command, nothing stops in the run
-pub form-done : (words : List (List ℕ)) (f : Form) (files : Files) (source : Source) (bytes : List ℕ)
-    → form_of words ≡ Some f → IsDone ((command_of f).outcome files source) bytes source.state
-    → IsDone (outcome words files source) bytes source.state
-form-done words f files source bytes is h =
-    subst (λ (o : Option Form). IsDone ((command_if o).outcome files source) bytes source.state) (sym is) h
+pub form-done : (words : List (List ℕ)) (f : Form) (files : Files) (source : Source) (bytes last : List ℕ)
+    → form_of words ≡ Some f → IsDone ((command_of f).outcome files source) bytes last
+    → IsDone (outcome words files source) bytes last
+form-done words f files source bytes last is h =
+    subst (λ (o : Option Form). IsDone ((command_if o).outcome files source) bytes last) (sym is) h
+
+-- what is taken for a form's command is taken for the run
+pub form-taken : (words : List (List ℕ)) (f : Form) (step : List ℕ → ℕ → Turn) (before after : List ℕ) (told : Option Files)
+    → form_of words ≡ Some f → ForSome told (λ files. TakesFront step ((command_of f).shape files) before after)
+    → ForSome told (λ files. TakesFront step ((command_if (form_of words)).shape files) before after)
+form-taken words f step before after told is h =
+    subst (λ (o : Option Form). ForSome told (λ files. TakesFront step ((command_if o).shape files) before after)) (sym is) h

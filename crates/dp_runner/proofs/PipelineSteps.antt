@@ -73,3 +73,10 @@ pub pipeline-refused : (fault : PipelineFault) (told : Option Files) (name text 
 pipeline-refused (pipeline_fault.Refused c) told name text before now read refused = λ files e.
     pipeline-text files name text (read files e) ∙ ap or_refused refused
 pipeline-refused pipeline_fault.NoMemory told name text before now read refused = tt
+
+-- a file that is there and spells an accepted pipeline
+pub pipeline-read : (files : Files) (name text : List ℕ) (content : Content) → files name ≡ Some text → accepted text ≡ Ok content
+    → pipeline_at files name ≡ Ok content
+unfolding pipeline_at
+pipeline-read files name text content has_text is_pipeline =
+    ap (λ found. or_stop stop.ReadFault found >>= (λ t. or_refused (accepted t))) has_text ∙ ap or_refused is_pipeline

@@ -1,11 +1,12 @@
--- The form of four words after `count`, of two words after `account`, of one word after `check`, and of any other number
--- of words; and the form of a
--- first word and others.
+-- The form of four words after `count`, `replay` and `rehearse`, of three after `run`, of two after `account`, of one
+-- after `check`, and of any other number of words; and the form of a first word and others.
 use Rattle.std.proofs.Common.{◌≡◌, ◌≢◌, ◌≤◌, ℕ, List, [], ◌∷◌, ◌-◌, length, take, drop, map, get_or, None, refl, arith, length-drop}
+use Rattle.std.specs.Prelude.{option_and_then}
 use Rattle.std.proofs.lemmas.List.{take_all}
 use Rattle.dp_runner.specs.Account.{account_form, account_form_of}
 use Rattle.dp_runner.specs.Check.{check_form, check_form_of}
 use Rattle.dp_runner.specs.Count.{count_form, count_form_of}
+use Rattle.dp_runner.specs.Sessions.{session_form_of, run_form, replay_form, replay_form_of, rehearse_form, rehearse_form_of}
 use Rattle.dp_runner.specs.Forms.{form_of, form_after}
 
 pub four-words : {W : Type 0} (bytes : W → List ℕ) (words : List W) (a b c d : W) → length words ≡ 4
@@ -23,6 +24,55 @@ other-words bytes (v ∷ []) n = refl
 other-words bytes (v ∷ w ∷ []) n = refl
 other-words bytes (v ∷ w ∷ x ∷ []) n = refl
 other-words bytes (v ∷ w ∷ x ∷ y ∷ more ∷ rest) n = refl
+
+pub three-words : {W : Type 0} (bytes : W → List ℕ) (words : List W) (a b c : W) → length words ≡ 3
+    → a ≡ get_or words 0 a → b ≡ get_or words 1 b → c ≡ get_or words 2 c
+    → run_form (map bytes words) ≡ session_form_of (bytes a) (bytes b) (bytes c)
+unfolding run_form
+three-words bytes (v ∷ w ∷ x ∷ []) a b c n ia ib ic = rw (ia, ib, ic) refl
+three-words bytes _ a b c n ia ib ic = absurd (omega arith)
+
+pub not_three-words : {W : Type 0} (bytes : W → List ℕ) (words : List W) → length words ≢ 3 → run_form (map bytes words) ≡ None
+unfolding run_form
+not_three-words bytes (v ∷ w ∷ x ∷ []) n = absurd (n refl)
+not_three-words bytes [] n = refl
+not_three-words bytes (v ∷ []) n = refl
+not_three-words bytes (v ∷ w ∷ []) n = refl
+not_three-words bytes (v ∷ w ∷ x ∷ more ∷ rest) n = refl
+
+pub replay-words : {W : Type 0} (bytes : W → List ℕ) (words : List W) (a b c d : W) → length words ≡ 4
+    → a ≡ get_or words 0 a → b ≡ get_or words 1 b → c ≡ get_or words 2 c → d ≡ get_or words 3 d
+    → replay_form (map bytes words)
+    ≡ option_and_then (λ session. replay_form_of session (bytes d)) (session_form_of (bytes a) (bytes b) (bytes c))
+unfolding replay_form
+replay-words bytes (v ∷ w ∷ x ∷ y ∷ []) a b c d n ia ib ic id = rw (ia, ib, ic, id) refl
+replay-words bytes _ a b c d n ia ib ic id = absurd (omega arith)
+
+pub not_replay-words : {W : Type 0} (bytes : W → List ℕ) (words : List W) → length words ≢ 4 → replay_form (map bytes words) ≡ None
+unfolding replay_form
+not_replay-words bytes (v ∷ w ∷ x ∷ y ∷ []) n = absurd (n refl)
+not_replay-words bytes [] n = refl
+not_replay-words bytes (v ∷ []) n = refl
+not_replay-words bytes (v ∷ w ∷ []) n = refl
+not_replay-words bytes (v ∷ w ∷ x ∷ []) n = refl
+not_replay-words bytes (v ∷ w ∷ x ∷ y ∷ more ∷ rest) n = refl
+
+pub rehearse-words : {W : Type 0} (bytes : W → List ℕ) (words : List W) (a b c d : W) → length words ≡ 4
+    → a ≡ get_or words 0 a → b ≡ get_or words 1 b → c ≡ get_or words 2 c → d ≡ get_or words 3 d
+    → rehearse_form (map bytes words)
+    ≡ option_and_then (λ session. rehearse_form_of session (bytes d)) (session_form_of (bytes a) (bytes b) (bytes c))
+unfolding rehearse_form
+rehearse-words bytes (v ∷ w ∷ x ∷ y ∷ []) a b c d n ia ib ic id = rw (ia, ib, ic, id) refl
+rehearse-words bytes _ a b c d n ia ib ic id = absurd (omega arith)
+
+pub not_rehearse-words : {W : Type 0} (bytes : W → List ℕ) (words : List W) → length words ≢ 4 → rehearse_form (map bytes words) ≡ None
+unfolding rehearse_form
+not_rehearse-words bytes (v ∷ w ∷ x ∷ y ∷ []) n = absurd (n refl)
+not_rehearse-words bytes [] n = refl
+not_rehearse-words bytes (v ∷ []) n = refl
+not_rehearse-words bytes (v ∷ w ∷ []) n = refl
+not_rehearse-words bytes (v ∷ w ∷ x ∷ []) n = refl
+not_rehearse-words bytes (v ∷ w ∷ x ∷ y ∷ more ∷ rest) n = refl
 
 pub one-word : {W : Type 0} (bytes : W → List ℕ) (words : List W) (a : W) → length words ≡ 1 → a ≡ get_or words 0 a
     → check_form (map bytes words) ≡ check_form_of (bytes a)

@@ -1,14 +1,12 @@
 -- The command `account P QUERIES`.
-use Rattle.std.specs.Prelude.{ℕ, ◌&&◌, ◌^◌, ◌++◌, true, false, List, [], ◌∷◌, length, Option, Some, None, Result, Ok, if◌then◌else◌}
-use Rattle.dp_count.specs.Results.{◌>>=◌}
+use Rattle.std.specs.Prelude.{ℕ, ◌&&◌, ◌^◌, ◌++◌, true, false, List, [], ◌∷◌, length, Option, Some, None, if◌then◌else◌}
 use Rattle.dp_io.specs.Lines.{lines_within, has_line_over}
 use Rattle.dp_io.specs.Shelf.{Files}
 use Rattle.dp_pipeline.specs.declared.content.Content.{Content}
 use Rattle.dp_session.specs.QueryLines.{account_lines, end_line}
 use Rattle.dp_session.specs.Verdicts.{units}
-use Rattle.dp_runner.specs.declared.stop.Stop.{Stop}
 use Rattle.dp_runner.specs.declared.stop.Stop.TheVariants as stop
-use Rattle.dp_runner.specs.Outcome.{Source, Outcome, Command, or_stop, once_read}
+use Rattle.dp_runner.specs.Outcome.{Source, Outcome, Command, or_stop, once_read, no_draws}
 use Rattle.dp_runner.specs.Pipelines.{pipeline_at}
 use Rattle.dp_runner.specs.Words.{is_file_name}
 
@@ -28,18 +26,6 @@ unfoldable pub account_form : List (List ℕ) → Option AccountForm
 account_form (pipeline_name ∷ queries_name ∷ []) = account_form_of pipeline_name queries_name
 account_form _ = None
 
--- the pipeline and the text of its queries
-pub record Asked : Type 0 where
-  pub pipeline : Content
-  pub text : List ℕ
-
--- what the files of the words have, looked at in this order
-unfoldable pub asked : AccountForm → Files → Result Asked Stop
-asked form files = do
-  pipeline ← pipeline_at files form.pipeline_name
-  text ← or_stop stop.ReadFault (files form.queries_name)
-  Ok (record { pipeline = pipeline; text = text })
-
 -- what is done of a text of queries: the lines of all before the first that is over; then the run stops there, or the
 -- end line is written
 unfoldable pub accounted : Source → Content → List ℕ → Outcome
@@ -53,11 +39,19 @@ accounted source pipeline text =
       last = source.state;
     }
 
+-- what is done of the files of the words: the pipeline's file is read first
+unfoldable pub account_outcome : AccountForm → Files → Source → Outcome
+account_outcome form files source =
+    once_read source
+    (λ pipeline. once_read source (accounted source pipeline) (or_stop stop.ReadFault (files form.queries_name)))
+    (pipeline_at files form.pipeline_name)
+
 -- what is said of the command: it leaves the draw source that is handed in as it was
 abbrev pub account_command : AccountForm → Command
 account_command form = record {
-  outcome = λ files source. once_read source (λ found. accounted source found.pipeline found.text) (asked form files);
+  outcome = account_outcome form;
   files = 2;
   writes_last = false;
   keeps_source = true;
+  shape = no_draws;
 }

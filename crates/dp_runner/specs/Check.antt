@@ -4,7 +4,7 @@ use Rattle.dp_count.specs.Results.{on_ok}
 use Rattle.dp_io.specs.Shelf.{Files}
 use Rattle.dp_pipeline.specs.Printing.{check_text}
 use Rattle.dp_runner.specs.declared.stop.Stop.{Stop}
-use Rattle.dp_runner.specs.Outcome.{Command, written_last}
+use Rattle.dp_runner.specs.Outcome.{Command, written_last, no_draws}
 use Rattle.dp_runner.specs.Pipelines.{pipeline_at}
 use Rattle.dp_runner.specs.Words.{is_file_name}
 
@@ -32,4 +32,5 @@ check_command form = record {
   files = 1;
   writes_last = true;
   keeps_source = true;
+  shape = no_draws;
 }

@@ -10,7 +10,7 @@ use Rattle.dp_geometric.specs.OneCell.{cell_shape, cell_out}
 use Rattle.dp_runner.specs.declared.stop.Stop.{Stop}
 use Rattle.dp_runner.specs.declared.stop.Stop.TheVariants as stop
 use Rattle.dp_count.specs.Results.{◌>>=◌}
-use Rattle.dp_runner.specs.Outcome.{Command, or_stop, written_last}
+use Rattle.dp_runner.specs.Outcome.{Command, or_stop, written_last, no_draws}
 use Rattle.dp_records.specs.RawRecords.{raw}
 use Rattle.dp_runner.specs.Texts.{file_text, drawn}
 use Rattle.dp_runner.specs.Words.{is_file_name}
@@ -90,4 +90,5 @@ count_command form = record {
   files = 2;
   writes_last = true;
   keeps_source = true;
+  shape = no_draws;
 }

@@ -5,10 +5,11 @@ use Rattle.dp_io.specs.Shelf.{Files}
 use Rattle.dp_runner.specs.declared.form.Form.{Form}
 use Rattle.dp_runner.specs.declared.form.Form.TheVariants as form
 use Rattle.dp_runner.specs.declared.stop.Stop.TheVariants as stop
-use Rattle.dp_runner.specs.Outcome.{Source, Outcome, Command}
+use Rattle.dp_runner.specs.Outcome.{Source, Outcome, Command, no_draws}
 use Rattle.dp_runner.specs.Account.{account_form, account_command}
 use Rattle.dp_runner.specs.Check.{check_form, check_command}
 use Rattle.dp_runner.specs.Count.{count_form, count_command}
+use Rattle.dp_runner.specs.Sessions.{run_form, run_command, replay_form, replay_command, rehearse_form, rehearse_command}
 
 -- what a command's word and the words after it say
 abbrev pub form_after : List ℕ → List (List ℕ) → Option Form
@@ -16,6 +17,9 @@ form_after command words =
     if bytes_eq command (codes "count") then option_map form.Count (count_form words)
     else if bytes_eq command (codes "check") then option_map form.Check (check_form words)
     else if bytes_eq command (codes "account") then option_map form.Account (account_form words)
+    else if bytes_eq command (codes "run") then option_map form.Run (run_form words)
+    else if bytes_eq command (codes "replay") then option_map form.Replay (replay_form words)
+    else if bytes_eq command (codes "rehearse") then option_map form.Rehearse (rehearse_form words)
     else None
 
 -- what is said of each form
@@ -23,6 +27,9 @@ abbrev pub command_of : Form → Command
 command_of (form.Count words) = count_command words
 command_of (form.Check words) = check_command words
 command_of (form.Account words) = account_command words
+command_of (form.Run words) = run_command words
+command_of (form.Replay words) = replay_command words
+command_of (form.Rehearse words) = rehearse_command words
 
 -- the form of all words
 unfoldable pub form_of : List (List ℕ) → Option Form
@@ -36,6 +43,7 @@ no_command = record {
   files = 0;
   writes_last = true;
   keeps_source = true;
+  shape = no_draws;
 }
 
 -- what is said of words of that form, if they are of one

@@ -1,22 +1,30 @@
 -- Where a run does its work: a law a command. Its words are of its form, its files are there and within their limits,
 -- its pipeline is accepted, and its draws are enough.
-use Rattle.std.specs.Prelude.{◌≡◌, ◌<◌, ◌≤◌, ◌^◌, ◌++◌, ℕ, List, [], false, length, Some, None, Ok, Err}
+use Rattle.std.specs.Prelude.{◌≡◌, ◌<◌, ◌≤◌, ◌^◌, ◌++◌, ℕ, List, [], false, length, Some, None, Ok, Err, codes}
+use Rattle.dp_domain.specs.declared.values.Value.{Value}
+use Rattle.dp_domain.specs.declared.values.Value.TheVariants as value
 use Rattle.dp_io.specs.Lines.{lines_of, has_line_over}
 use Rattle.dp_io.specs.Shelf.{Files}
 use Rattle.dp_draws.specs.Numbers.{drawn_numbers}
+use Rattle.dp_draws.specs.Sources.{replay_step}
+use Rattle.dp_draws.specs.Taking.{take_draws}
 use Rattle.dp_pipeline.specs.declared.content.Content.{Content}
 use Rattle.dp_pipeline.specs.Accepted.{accepted}
 use Rattle.dp_pipeline.specs.Printing.{check_text}
 use Rattle.dp_runner.specs.declared.form.Form.TheVariants as form
 use Rattle.dp_runner.specs.declared.stop.Stop.TheVariants as stop
-use Rattle.dp_runner.specs.Outcome.{Source, Outcome}
+use Rattle.dp_runner.specs.Outcome.{Source, Outcome, source_at}
+use Rattle.dp_session.specs.Privacy.{text_records}
 use Rattle.dp_session.specs.QueryLines.{account_lines, end_line}
+use Rattle.dp_session.specs.Runs.{run_shape}
+use Rattle.dp_session.specs.SessionLines.{transcript}
 use Rattle.dp_session.specs.Verdicts.{units}
 use Rattle.dp_runner.specs.Account.{AccountForm}
 use Rattle.dp_runner.specs.Check.{CheckForm}
 use Rattle.dp_runner.specs.Count.{CountForm, cell_draws, cell_answer, answer_line}
 use Rattle.dp_runner.specs.Forms.{form_of, outcome}
 use Rattle.dp_runner.specs.Pipelines.{IsNumber}
+use Rattle.dp_runner.specs.Sessions.{SessionForm, ReplayForm, RehearseForm, seeded}
 use Rattle.dp_records.specs.RawRecords.{raw}
 
 -- what a run did that nothing stopped
@@ -53,6 +61,59 @@ AccountLaw = (words : List (List ℕ)) (files : Files) (source : Source) (accoun
     → let lines = lines_of queries in
     IsDone (outcome words files source)
     (account_lines content [] lines ++ end_line (length lines) (units content lines)) source.state
+
+-- what the three files of a session have: an accepted pipeline, a data text of at most 2 ^ 30 bytes, and queries of which
+-- no line is over
+pub record HasFiles (session : SessionForm) (files : Files) (content : Content) (data_text queries : List ℕ)
+    : Type 0 where
+  pub text : List ℕ
+  pub pipeline_file : files session.pipeline_name ≡ Some text
+  pub is_accepted : accepted text ≡ Ok content
+  pub data_file : files session.data_name ≡ Some data_text
+  pub data_short : length data_text ≤ 2 ^ 30
+  pub queries_file : files session.queries_name ≡ Some queries
+  pub none_over : has_line_over (2 ^ 20) queries ≡ false
+
+-- the root's value on a data text: its records
+abbrev pub data_root : Content → List ℕ → Value
+data_root content data_text = value.Rows (text_records content data_text)
+
+-- a source gives these draws for all queries of a text, in order, and is left in this state
+abbrev pub GivesAll : Source → Content → List ℕ → List ℕ → List ℕ → List ℕ → Type 0
+GivesAll source content data_text queries draws last =
+    take_draws source.step source.state (run_shape content (data_root content data_text) (lines_of queries))
+    ≡ record { draws = Some draws; last = last }
+
+-- `run` writes the transcript of its queries by the draws that are handed in, ends with 0 and leaves their source in the
+-- state after them
+abbrev pub RunLaw : Type 0
+RunLaw = (words : List (List ℕ)) (files : Files) (source : Source) (run : SessionForm) (content : Content)
+    → (data_text queries draws last : List ℕ)
+    → form_of words ≡ Some (form.Run run) → HasFiles run files content data_text queries
+    → GivesAll source content data_text queries draws last
+    → IsDone (outcome words files source)
+    (transcript content (data_root content data_text) (lines_of queries) draws) last
+
+-- `replay` writes it by the numbers of its file of draws, ends with 0 and leaves the draw source that is handed in as it
+-- was
+abbrev pub ReplayLaw : Type 0
+ReplayLaw = (words : List (List ℕ)) (files : Files) (source : Source) (replay : ReplayForm) (content : Content)
+    → (data_text queries numbers draws last : List ℕ)
+    → form_of words ≡ Some (form.Replay replay) → HasFiles replay.session files content data_text queries
+    → files replay.draws_name ≡ Some numbers → length numbers ≤ 2 ^ 26
+    → GivesAll (source_at replay_step (drawn_numbers numbers)) content data_text queries draws last
+    → IsDone (outcome words files source)
+    (transcript content (data_root content data_text) (lines_of queries) draws) source.state
+
+-- `rehearse` writes it after a line that says so, by the draws of its seed, ends with 0 and leaves the draw source that
+-- is handed in as it was
+abbrev pub RehearseLaw : Type 0
+RehearseLaw = (words : List (List ℕ)) (files : Files) (source : Source) (rehearse : RehearseForm) (content : Content)
+    → (data_text queries draws last : List ℕ)
+    → form_of words ≡ Some (form.Rehearse rehearse) → HasFiles rehearse.session files content data_text queries
+    → GivesAll (seeded rehearse.seed) content data_text queries draws last
+    → IsDone (outcome words files source)
+    (codes "rehearsal\n" ++ transcript content (data_root content data_text) (lines_of queries) draws) source.state
 
 -- what a run did that a refused pipeline stopped: nothing was written, and its number has one digit
 pub record IsRefusedBy (outcome : Outcome) (c : ℕ) (last : List ℕ) : Type 0 where

@@ -1,4 +1,6 @@
 pub mod Account
+pub mod Answering
+pub mod AnsweringProof
 pub mod Causes
 pub mod Check
 pub mod Count
@@ -7,8 +9,11 @@ pub mod Laws
 pub mod Outcome
 pub mod Pipelines
 pub mod RunClauses
+pub mod SessionLaws
+pub mod Sessions
 pub mod Stops
 pub mod Texts
 pub mod Turns
 pub mod Words
 pub mod WrittenLines
+pub mod WrittenLinesProof

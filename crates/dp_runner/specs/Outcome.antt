@@ -1,5 +1,5 @@
 -- What a run writes and how it ends, where nothing fails: definitions over whole texts.
-use Rattle.std.specs.Prelude.{ℕ, List, [], Bool, Option, Some, None, Result, Ok, Err}
+use Rattle.std.specs.Prelude.{ℕ, List, [], ◌++◌, Bool, Option, Some, None, Result, Ok, Err}
 use Rattle.dp_io.specs.Shelf.{Files}
 use Rattle.dp_draws.specs.Taking.{Turn}
 use Rattle.dp_runner.specs.declared.stop.Stop.{Stop}
@@ -29,6 +29,8 @@ pub record Command : Type 0 where
   pub writes_last : Bool
   -- whether it leaves the draw source that is handed in as it was
   pub keeps_source : Bool
+  -- the bounds of the draws that it takes from that source, in order
+  pub shape : Files → List ℕ
 
 -- a value, or else the end of the run
 abbrev pub or_stop : {A : Type 0} → Stop → Option A → Result A Stop
@@ -44,3 +46,15 @@ once_read source next (Err reason) = record { bytes = []; stop = Some reason; la
 abbrev pub written_last : Source → Result (List ℕ) Stop → Outcome
 written_last source (Ok bytes) = record { bytes = bytes; stop = None; last = source.state }
 written_last source (Err reason) = record { bytes = []; stop = Some reason; last = source.state }
+
+-- a run that writes these bytes before
+abbrev pub preceded_by : List ℕ → Outcome → Outcome
+preceded_by bytes outcome = record { bytes = bytes ++ outcome.bytes; stop = outcome.stop; last = outcome.last }
+
+-- a run that used a draw source of its own: the source that is handed in stays as it was
+abbrev pub by_own_draws : Source → Outcome → Outcome
+by_own_draws source outcome = record { bytes = outcome.bytes; stop = outcome.stop; last = source.state }
+
+-- no draws, of a command that takes none from the source that is handed in
+abbrev pub no_draws : Files → List ℕ
+no_draws files = []

@@ -8,6 +8,8 @@ use Rattle.dp_io.specs.declared.faults.WholeFault.{WholeFault}
 use Rattle.dp_io.specs.declared.faults.WholeFault.TheVariants as whole_fault
 use Rattle.dp_pipeline.specs.declared.faults.PipelineFault.{PipelineFault}
 use Rattle.dp_pipeline.specs.declared.faults.PipelineFault.TheVariants as pipeline_fault
+use Rattle.dp_records.specs.declared.faults.DataFault.{DataFault}
+use Rattle.dp_records.specs.declared.faults.DataFault.TheVariants as data_fault
 use Rattle.dp_runner.specs.declared.stop.Stop.{Stop}
 use Rattle.dp_runner.specs.declared.stop.Stop.TheVariants as stop
 
@@ -55,6 +57,12 @@ abbrev pub stop_of_whole : WholeFault → Stop
 stop_of_whole whole_fault.Failed = stop.ReadFault
 stop_of_whole whole_fault.TooLong = stop.TooLong
 stop_of_whole whole_fault.NoMemory = stop.NoMemory
+
+-- what a fault of reading the records of a data file stops a run with
+abbrev pub stop_of_data : DataFault → Stop
+stop_of_data data_fault.ReadFault = stop.ReadFault
+stop_of_data data_fault.TooLong = stop.TooLong
+stop_of_data data_fault.NoMemory = stop.NoMemory
 
 -- what a fault of reading a line of queries stops a run with
 abbrev pub stop_of_line : LineFault → Stop

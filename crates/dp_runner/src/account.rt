@@ -1,25 +1,18 @@
-ghost use Rattle.std.specs.Prelude.{◌≡◌, ◌≢◌, ◌+◌, ◌≤◌, ◌<◌, ◌^◌, List, ℕ, [], false, length, map, string_bytes, OnOk, IfErr, IsTrue, Ok, Err, option_map};
+ghost use Rattle.std.specs.Prelude.{◌≡◌, ◌≢◌, ◌+◌, ◌≤◌, map, string_bytes, OnOk, IfErr, IsTrue, Err};
 ghost use Rattle.dp_count.specs.Faults.{Rose};
-ghost use Rattle.dp_io.specs.Lines.{remaining};
-ghost use Rattle.dp_pipeline.specs.declared.content.Content.{Content};
-ghost use Rattle.dp_session.specs.Accounts.{IsAccountAt};
-ghost use Rattle.dp_session.specs.QueryLines.{end_line};
-ghost use Rattle.dp_session.specs.Verdicts.{root_spent};
+ghost use Rattle.dp_runner.specs.Account.{account_form, account_form_of, account_outcome};
 ghost use Rattle.dp_runner.specs.Causes.{Kept, Runs};
 ghost use Rattle.dp_runner.specs.Outcome.{Source};
-ghost use Rattle.dp_runner.specs.Account.{account_form, account_form_of, account_command, accounted};
 ghost use Rattle.dp_runner.specs.Stops.{row_of, is_silent};
-ghost use Rattle.dp_runner.specs.Turns.{RunsTo, Turns, Ends};
 
+use crate::answering::answer_file;
 use crate::pipelines::pipeline_of;
 use crate::stop::Stop;
-use dp_io::{Lines, Shelf, Sink};
-use dp_session::{Account, AccountFault, EndFault};
+use dp_draws::NoDraws;
+use dp_io::{Shelf, Sink};
+use dp_session::Account;
 use std::alloc::Global;
 use std::marker::Model;
-
-/// How many query lines there are at most.
-const MOST_LINES: u32 = 1 << 20;
 
 /// The words of `account P QUERIES`.
 #[derive(Debug, Drop)]
@@ -87,7 +80,7 @@ pub(crate) fn run_account<S: Shelf, K: Sink>(
     out: &mut K,
 ) -> Result<(), Stop>
     ensures runs { (source : Source) → Runs result (S.files shelf.old)
-        (λ files. (account_command form.now).outcome files source) (S.faults shelf.old) (S.faults shelf.new)
+        (λ files. account_outcome form.now files source) (S.faults shelf.old) (S.faults shelf.new)
         (K.held out.old) (K.held out.new) source.state }
     ensures no_usage { result ≢ Err Stop.Usage }
     ensures silent { IfErr result (λ reason.
@@ -101,93 +94,13 @@ pub(crate) fn run_account<S: Shelf, K: Sink>(
     ensures out_kept { result ≢ Err Stop.WriteFault → K.faults out.new ≡ K.faults out.old }
 {
     let pipeline = pipeline_of(alloc, shelf, form.pipeline_name())?;
-    let slot = shelf.open(alloc, form.queries_name())?;
-    let mut lines = Lines::new(alloc, slot)?;
     let mut account = Account::new(alloc, pipeline)?;
-    answer_lines(alloc, &mut account, &mut lines, shelf, out)
-}
-
-/// Answers all query lines that remain, from an account at no queries, and writes the last line.
-fn answer_lines<S: Shelf, K: Sink>(
-    alloc: Global,
-    account: &mut Account,
-    lines: &mut Lines,
-    shelf: &mut S,
-    out: &mut K,
-) -> Result<(), Stop>
-    requires open { lines.old.slot < S.slots shelf.old }
-    requires stands { IsAccountAt account.old account.old.queries.pipeline [] }
-    ensures runs { (source : Source) → RunsTo result
-        (option_map (accounted source account.old.queries.pipeline)
-        (remaining lines.old (S.left shelf.old lines.old.slot)))
-        (S.faults shelf.old) (S.faults shelf.new) (K.held out.old) (K.held out.new) }
-    ensures speaks { IfErr result (λ reason. is_silent (row_of reason).status ≡ false) }
-    ensures later { S.faults shelf.old ≤ S.faults shelf.new }
-    ensures kept { Kept result (S.faults shelf.old) (S.faults shelf.new) }
-    ensures same_slots { S.slots shelf.new ≡ S.slots shelf.old }
-    ensures write_fault { result ≡ Err Stop.WriteFault → Rose (K.faults out.old) (K.faults out.new) }
-    ensures out_later { K.faults out.old ≤ K.faults out.new }
-    ensures out_kept { result ≢ Err Stop.WriteFault → K.faults out.new ≡ K.faults out.old }
-{
-    for _turn in 0..MOST_LINES {
-        if !answer_next(alloc, account, lines, shelf, out)? {
-            return end(account, out);
-        }
-    }
-    if lines.next(shelf)? {
-        return Err(Stop::QueryLimit);
-    }
-    end(account, out)
-}
-
-/// Reads the next query line and answers it; tells whether there was one.
-fn answer_next<S: Shelf, K: Sink>(
-    alloc: Global,
-    account: &mut Account,
-    lines: &mut Lines,
-    shelf: &mut S,
-    out: &mut K,
-) -> Result<bool, Stop>
-    requires open { lines.old.slot < S.slots shelf.old }
-    requires live { account.old.ended ≡ false }
-    requires few { account.old.queries.answered < 2 ^ 20 }
-    ensures turns { (pipeline : Content) (past : List (List ℕ)) → IsAccountAt account.old pipeline past
-        → Turns result account.new pipeline past (remaining lines.old (S.left shelf.old lines.old.slot))
-        (remaining lines.new (S.left shelf.new lines.old.slot)) (K.held out.old) (K.held out.new) }
-    ensures speaks { IfErr result (λ reason. is_silent (row_of reason).status ≡ false) }
-    ensures rose { result ≡ Err Stop.ReadFault → Rose (S.faults shelf.old) (S.faults shelf.new) }
-    ensures later { S.faults shelf.old ≤ S.faults shelf.new }
-    ensures kept { Kept result (S.faults shelf.old) (S.faults shelf.new) }
-    ensures same_slot { lines.new.slot ≡ lines.old.slot }
-    ensures same_slots { S.slots shelf.new ≡ S.slots shelf.old }
-    ensures write_fault { result ≡ Err Stop.WriteFault → Rose (K.faults out.old) (K.faults out.new) }
-    ensures out_later { K.faults out.old ≤ K.faults out.new }
-    ensures out_kept { result ≢ Err Stop.WriteFault → K.faults out.new ≡ K.faults out.old }
-{
-    if !lines.next(shelf)? {
-        return Ok(false);
-    }
-    match account.line(alloc, lines.line(), out) {
-        Ok(()) => Ok(true),
-        Err(AccountFault::WriteFault) => Err(Stop::WriteFault),
-        Err(AccountFault::NoMemory) => Err(Stop::NoMemory),
-        Err(AccountFault::Ended) => unreachable!(),
-    }
-}
-
-/// Writes the last line.
-fn end<K: Sink>(account: &mut Account, out: &mut K) -> Result<(), Stop>
-    requires { account.old.ended ≡ false }
-    ensures ends { (pipeline : Content) (past : List (List ℕ)) → IsAccountAt account.old pipeline past
-        → Ends result (end_line (length past) (root_spent pipeline past)) (K.held out.old) (K.held out.new) }
-    ensures only { IfErr result (λ reason. reason ≡ Stop.WriteFault) }
-    ensures write_fault { result ≡ Err Stop.WriteFault → Rose (K.faults out.old) (K.faults out.new) }
-    ensures out_later { K.faults out.old ≤ K.faults out.new }
-    ensures out_kept { result ≢ Err Stop.WriteFault → K.faults out.new ≡ K.faults out.old }
-{
-    match account.end(out) {
-        Ok(()) => Ok(()),
-        Err(EndFault::WriteFault) => Err(Stop::WriteFault),
-        Err(EndFault::Ended) => unreachable!(),
-    }
+    answer_file(
+        alloc,
+        &mut account,
+        form.queries_name(),
+        shelf,
+        &mut NoDraws::new(),
+        out,
+    )
 }

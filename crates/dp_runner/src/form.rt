@@ -4,6 +4,9 @@ ghost use Rattle.dp_runner.specs.Forms.{form_of, form_after};
 use crate::account::{AccountForm, account_form};
 use crate::check::{CheckForm, check_form};
 use crate::count::{CountForm, count_form};
+use crate::sessions::{
+    RehearseForm, ReplayForm, SessionForm, rehearse_form, replay_form, run_form,
+};
 
 /// The words of a command line that has a form: a variant a command.
 #[derive(Debug, Drop)]
@@ -14,6 +17,12 @@ pub(crate) enum Form<'a> {
     Check(CheckForm<'a>),
     /// `account P QUERIES`
     Account(AccountForm<'a>),
+    /// `run P DATA QUERIES`
+    Run(SessionForm<'a>),
+    /// `replay P DATA QUERIES DRAWS`
+    Replay(ReplayForm<'a>),
+    /// `rehearse P DATA QUERIES SEED`
+    Rehearse(RehearseForm<'a>),
 }
 
 /// The form of the words, if they are of one.
@@ -34,6 +43,9 @@ fn form_after<'a>(command: &str, words: &'a [String]) -> Option<Form<'a>>
         "count" => Some(Form::Count(count_form(words)?)),
         "check" => Some(Form::Check(check_form(words)?)),
         "account" => Some(Form::Account(account_form(words)?)),
+        "run" => Some(Form::Run(run_form(words)?)),
+        "replay" => Some(Form::Replay(replay_form(words)?)),
+        "rehearse" => Some(Form::Rehearse(rehearse_form(words)?)),
         _ => None,
     }
 }

@@ -1,5 +1,6 @@
 //! Where a run does its work. Each law is the contract of a function that does nothing.
-ghost use Rattle.dp_runner.specs.Laws.{CountLaw, CheckLaw, AccountLaw, RefusalLaw, LongLaw};
+ghost use Rattle.dp_runner.specs.Laws.{CountLaw, CheckLaw, AccountLaw, RunLaw, ReplayLaw, RehearseLaw, RefusalLaw, LongLaw};
+ghost use Rattle.dp_runner.specs.SessionLaws.{RunsOutLaw, LimitLaw, TranscriptLaw};
 
 /// Where the words are of the form of `count`, its files are there and within their limits, and its draws are enough,
 /// the run writes the line of the answer and ends with 0.
@@ -18,6 +19,33 @@ pub fn check_law()
 /// 0.
 pub fn account_law()
     ensures { AccountLaw }
+{}
+
+/// Where the words are of the form of `run`, its files are there and within their limits, its pipeline is accepted, no
+/// query line is over, and the source that is handed in gives the draws of all queries, the run writes the line of each
+/// query by its own part of these draws, and the end line, ends with 0 and leaves the source in the state after them.
+pub fn run_law()
+    ensures { RunLaw }
+{}
+
+/// The same of `replay`, by the draws in its file; the source that is handed in stays as it was.
+pub fn replay_law()
+    ensures { ReplayLaw }
+{}
+
+/// The same of `rehearse`, after its first line and by the draws of its seed; the source that is handed in stays as it
+/// was.
+pub fn rehearse_law()
+    ensures { RehearseLaw }
+{}
+
+/// A text of queries on data, by the draws of all queries taken in order: up to a query whose draws the source does not
+/// give, up to the first line that is over, or whole, with the end line. Each line is written by its own part of the
+/// draws, and the source is left where taking leaves it.
+pub fn session_law()
+    ensures runs_out { RunsOutLaw }
+    ensures limit { LimitLaw }
+    ensures transcript { TranscriptLaw }
 {}
 
 /// Where the words are of the form of `check`, its file is there and its text is refused with a number, the run writes

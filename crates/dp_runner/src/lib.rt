@@ -2,12 +2,15 @@
 #![tactic(auto)]
 
 mod account;
+mod answerer;
+mod answering;
 mod check;
 mod count;
 mod form;
 pub mod laws;
 mod pipelines;
 mod run;
+mod sessions;
 mod stop;
 mod texts;
 

@@ -1,4 +1,4 @@
-ghost use Rattle.std.specs.Prelude.{◌≡◌, ◌+◌, ◌≤◌, ◌^◌, OnOk};
+ghost use Rattle.std.specs.Prelude.{◌≡◌, ◌≢◌, ◌+◌, ◌≤◌, ◌^◌, OnOk, Err};
 ghost use Rattle.dp_runner.specs.Causes.{Answers, Kept};
 ghost use Rattle.dp_runner.specs.Pipelines.{pipeline_text, pipeline_at};
 
@@ -21,6 +21,7 @@ pub(crate) fn pipeline_of<S: Shelf>(
 ) -> Result<Pipeline, Stop>
     ensures answers { Answers result (λ pipeline. pipeline) (S.files shelf.old) (λ files. pipeline_at files name.now)
         (S.faults shelf.old) (S.faults shelf.new) }
+    ensures no_draw_fault { result ≢ Err Stop.DrawFault }
     ensures later { S.faults shelf.old ≤ S.faults shelf.new }
     ensures kept { Kept result (S.faults shelf.old) (S.faults shelf.new) }
     ensures opens { S.slots shelf.new ≤ S.slots shelf.old + 1 }
@@ -35,6 +36,7 @@ pub(crate) fn pipeline_of<S: Shelf>(
 fn read_text<S: Shelf>(alloc: Global, shelf: &mut S, name: &str) -> Result<Vec<u8>, Stop>
     ensures answers { Answers result (λ text. text.items) (S.files shelf.old) (λ files. pipeline_text files name.now)
         (S.faults shelf.old) (S.faults shelf.new) }
+    ensures no_draw_fault { result ≢ Err Stop.DrawFault }
     ensures later { S.faults shelf.old ≤ S.faults shelf.new }
     ensures kept { Kept result (S.faults shelf.old) (S.faults shelf.new) }
     ensures opens { S.slots shelf.new ≤ S.slots shelf.old + 1 }

@@ -1,6 +1,8 @@
-ghost use Rattle.std.specs.Prelude.{◌≡◌, ◌≢◌, ◌+◌, ◌≤◌, ◌⊎◌, ◌↔◌, map, string_bytes, Some, None, Ok, Err, OnOk, IfErr, IsTrue};
+ghost use Rattle.std.specs.Prelude.{◌≡◌, ◌≢◌, ◌+◌, ◌≤◌, ◌⊎◌, ◌↔◌, map, string_bytes, Some, None, Ok, Err, OnOk, IfErr, IsTrue, false};
 ghost use Rattle.std.specs.Option.{ForSome};
 ghost use Rattle.dp_count.specs.Faults.{Rose, Still};
+ghost use Rattle.dp_law.specs.Releasing.{TakesFront};
+ghost use Rattle.dp_session.specs.Privacy.{PrivacyLaw};
 ghost use Rattle.dp_runner.specs.Causes.{Runs, Kept, IsTold};
 ghost use Rattle.dp_runner.specs.Outcome.{source_at};
 ghost use Rattle.dp_runner.specs.Forms.{form_of, command, outcome};
@@ -11,21 +13,31 @@ use crate::account::run_account;
 use crate::check::run_check;
 use crate::count::run_count;
 use crate::form::{Form, form_of};
+use crate::sessions::{run_rehearse, run_replay, run_session};
 use crate::stop::Stop;
 use dp_draws::Draws;
 use dp_io::{Shelf, Sink, write_all};
+use dp_session::laws::privacy_law;
 use std::alloc::Global;
 
 /// Does all that the program does, and gives the status that it ends with.
 ///
-/// `words` are the words of the command line without the program's own name. They have one of three forms, none of
-/// which uses the draw source that is handed in:
+/// `words` are the words of the command line without the program's own name. They have one of six forms, of which `run`
+/// alone uses the draw source that is handed in:
 ///
 /// - `count DATA DRAWS LO HI` counts the CSV records of the file DATA and writes `answer A`, A being the geometric
 ///   release of that number with the ratio 1/2 and the range LO..HI, from the draws in the file DRAWS;
 /// - `check P` reads the pipeline of the file P and writes its stages;
 /// - `account P QUERIES` reads the pipeline of the file P and the lines of the file QUERIES, and writes the verdict of
-///   each query, what it costs and what is spent, and a last line.
+///   each query, what it costs and what is spent, and a last line;
+/// - `run P DATA QUERIES` answers the queries on the records of the file DATA, by the draws that are handed in, and
+///   writes the line of each query and a last line;
+/// - `replay P DATA QUERIES DRAWS` does so by the draws in the file DRAWS;
+/// - `rehearse P DATA QUERIES SEED` writes the line `rehearsal`, just before it opens QUERIES, and does so by the draws
+///   of ChaCha20 whose key is SEED, 1 to 19 digits, as eight bytes, the lowest first, and 24 zeros.
+///
+/// Answers of `replay` and `rehearse` come from known draws and protect nobody. Of the definitions that all three
+/// follow, every accepted pipeline is private.
 ///
 /// | status | line on `err` | comes |
 /// |---|---|---|
@@ -34,7 +46,7 @@ use std::alloc::Global;
 /// | 3 | `dp: pipeline refused c` | exactly where the text of P is refused with the number c, and no earlier fault came |
 /// | 4 | `dp: read fault` | only where the shelf's count of faults rose, or where it tells its files and lacks one |
 /// | 5 | `dp: write fault` | only where the count of faults of `out` rose |
-/// | 6 | `dp: draw fault` | exactly where DRAWS has too few numbers or one out of range, and no other fault came |
+/// | 6 | `dp: draw fault` | exactly where the command's draw source fails in taking the draws, and no other fault came; where that is the source that is handed in, its count of faults rose besides |
 /// | 7 | `dp: too long` | exactly where DATA passes 2^30 bytes or DRAWS 2^26, and no earlier fault came |
 /// | 8 | `dp: query limit` | exactly where a line of QUERIES passes 65,536 bytes or they pass 2^20, and no fault came |
 /// | 9 | `dp: no memory` | memory ran out |
@@ -99,9 +111,22 @@ pub fn run_words<S: Shelf, D: Draws, K: Sink, E: Sink>(
     ensures kept { result ≢ 4 → result ≢ 5 → result ≢ 9
         → (S.faults shelf.new ≡ S.faults shelf.old) × (K.faults out.new ≡ K.faults out.old) }
     ensures source { IsTrue (command (map string_bytes words.now)).keeps_source → draws.new ≡ draws.old }
+
+    // The count of the source that is handed in rose where the run used it and it failed, and nowhere else.
+    ensures source_rose { result ≡ 6 → (command (map string_bytes words.now)).keeps_source ≡ false
+        → Rose (D.faults draws.old) (D.faults draws.new) }
+    ensures source_kept { result ≢ 6 → D.faults draws.new ≡ D.faults draws.old }
+
+    // Unless it failed, it stands where taking some first part of the run's draws leaves it.
+    ensures taken { result ≢ 6 → ForSome (S.files shelf.old) (λ files.
+        TakesFront D.step ((command (map string_bytes words.now)).shape files) (D.state draws.old) (D.state draws.new)) }
+
+    // Every accepted pipeline is private, on all data texts within its distance, for all lists of queries and replies.
+    ensures private { PrivacyLaw }
     ensures later { (S.faults shelf.old ≤ S.faults shelf.new) × (K.faults out.old ≤ K.faults out.new)
         × (E.faults err.old ≤ E.faults err.new) }
 {
+    privacy_law();
     match run(alloc, words, shelf, draws, out) {
         Ok(()) => 0,
         Err(stop) => report(stop, err),
@@ -149,17 +174,24 @@ fn run<S: Shelf, D: Draws, K: Sink>(
     ensures opened { OnOk result
         (S.slots shelf.new ≡ S.slots shelf.old + (command (map string_bytes words.now)).files) }
     ensures source { IsTrue (command (map string_bytes words.now)).keeps_source → draws.new ≡ draws.old }
+    ensures source_rose { result ≡ Err Stop.DrawFault → (command (map string_bytes words.now)).keeps_source ≡ false
+        → Rose (D.faults draws.old) (D.faults draws.new) }
+    ensures source_kept { result ≢ Err Stop.DrawFault → D.faults draws.new ≡ D.faults draws.old }
+    ensures taken { result ≢ Err Stop.DrawFault → ForSome (S.files shelf.old) (λ files.
+        TakesFront D.step ((command (map string_bytes words.now)).shape files) (D.state draws.old) (D.state draws.new)) }
     ensures later { S.faults shelf.old ≤ S.faults shelf.new }
     ensures kept { Kept result (S.faults shelf.old) (S.faults shelf.new) }
     ensures write_fault { result ≡ Err Stop.WriteFault → Rose (K.faults out.old) (K.faults out.new) }
     ensures out_later { K.faults out.old ≤ K.faults out.new }
     ensures out_kept { result ≢ Err Stop.WriteFault → K.faults out.new ≡ K.faults out.old }
 {
-    let _ = draws;
     match form_of(words) {
         None => Err(Stop::Usage),
         Some(Form::Count(form)) => run_count(alloc, &form, shelf, out),
         Some(Form::Check(form)) => run_check(alloc, &form, shelf, out),
         Some(Form::Account(form)) => run_account(alloc, &form, shelf, out),
+        Some(Form::Run(form)) => run_session(alloc, &form, shelf, draws, out),
+        Some(Form::Replay(form)) => run_replay(alloc, &form, shelf, out),
+        Some(Form::Rehearse(form)) => run_rehearse(alloc, &form, shelf, out),
     }
 }

@@ -5,6 +5,7 @@ ghost use Rattle.dp_runner.specs.declared.stop.Stop.TheVariants as stop;
 use dp_count::{Failed, NoMemory};
 use dp_io::{LineFault, OpenFault, WholeFault};
 use dp_pipeline::PipelineFault;
+use dp_records::DataFault;
 
 /// Why a run ended before its end.
 #[derive(Clone, Copy, Debug, PartialEq, Eq)]
@@ -107,6 +108,21 @@ impl From<WholeFault> for Stop {
             WholeFault::Failed => Stop::ReadFault,
             WholeFault::TooLong => Stop::TooLong,
             WholeFault::NoMemory => Stop::NoMemory,
+        }
+    }
+}
+
+impl From<DataFault> for Stop {
+    ghost use Rattle.std.specs.Prelude.{◌≡◌};
+    ghost use Rattle.dp_runner.specs.Stops.{stop_of_data};
+
+    ghost from_gives = { λ fault e. e ≡ stop_of_data fault };
+
+    fn from(fault: DataFault) -> Self {
+        match fault {
+            DataFault::ReadFault => Stop::ReadFault,
+            DataFault::TooLong => Stop::TooLong,
+            DataFault::NoMemory => Stop::NoMemory,
         }
     }
 }

@@ -2,10 +2,11 @@ ghost use Rattle.std.specs.Prelude.{◌≤◌};
 
 mod account;
 mod check;
+mod sessions;
 
 use crate::laws::count_law;
 use crate::{end_without_memory, run_words};
-use dp_draws::NoDraws;
+use dp_draws::{Draws, NoDraws};
 use dp_io::{MemShelf, MemSink};
 use std::process::Abort;
 use std::test::Fail;
@@ -55,7 +56,16 @@ fn run_with(
     draws: &[u8],
     calls: Calls,
 ) -> Result<Shown, Fail> {
-    let pieces = if calls.whole {
+    run_in_pieces(rt, words, data, draws, calls, pieces_of(calls.whole))
+}
+
+/// All at once, or a few bytes at a time.
+fn pieces_of(whole: bool) -> Pieces
+    ensures read { 1 ≤ result.read }
+    ensures written { 1 ≤ result.written }
+    ensures told { 1 ≤ result.told }
+{
+    if whole {
         Pieces {
             read: 1 << 20,
             written: 64,
@@ -67,8 +77,7 @@ fn run_with(
             written: 3,
             told: 5,
         }
-    };
-    run_in_pieces(rt, words, data, draws, calls, pieces)
+    }
 }
 
 /// The same, whose objects take such pieces.
@@ -94,20 +103,29 @@ fn run_in_pieces(
         String::from_str(alloc, "draws")?,
         Vec::from_slice(alloc, draws)?,
     )?;
+    run_over(rt, words, &mut shelf, &mut NoDraws::new(), calls, pieces)
+}
+
+/// A run over a shelf in memory and a source of draws, whose outputs take such pieces.
+fn run_over<D: Draws>(
+    rt: &impl AllocGlobal,
+    words: &[&str],
+    shelf: &mut MemShelf,
+    source: &mut D,
+    calls: Calls,
+    pieces: Pieces,
+) -> Result<Shown, Fail>
+    requires written { 1 ≤ pieces.written }
+    requires told { 1 ≤ pieces.told }
+{
+    let alloc = rt.alloc();
     let mut out = MemSink::new(alloc, pieces.written, vec![in alloc; calls.out]?, ROOM)?;
     let mut err = MemSink::new(alloc, pieces.told, vec![in alloc; calls.err]?, ROOM)?;
     let mut given = Vec::new(alloc);
     for word in words {
         given.push(String::from_str(alloc, word)?)?;
     }
-    let status = run_words(
-        alloc,
-        &given,
-        &mut shelf,
-        &mut NoDraws::new(),
-        &mut out,
-        &mut err,
-    );
+    let status = run_words(alloc, &given, shelf, source, &mut out, &mut err);
     Ok(Shown {
         status,
         out: Vec::from_slice(alloc, out.held())?,

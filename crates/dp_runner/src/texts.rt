@@ -25,6 +25,7 @@ pub(crate) fn read_replay<S: Shelf>(
     ensures kept { Kept result (S.faults shelf.old) (S.faults shelf.new) }
     ensures opens { S.slots shelf.new ≤ S.slots shelf.old + 1 }
     ensures opened { OnOk result (S.slots shelf.new ≡ S.slots shelf.old + 1) }
+    ensures same_files { S.files shelf.new ≡ S.files shelf.old }
 {
     let text = read_file(alloc, shelf, name, MOST_DRAWS)?;
     Ok(read_draws(alloc, text.as_slice())?)

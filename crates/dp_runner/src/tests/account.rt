@@ -7,15 +7,18 @@ use std::test::Fail;
 const ACCOUNT: [&str; 3] = ["account", "data", "draws"];
 
 /// A pipeline with an odometer at its root.
-const ODOMETER: &[u8] = br#"{"version":1,"columns":["sex","age"],"header":false,"ratio":[1,2],
+pub(super) const ODOMETER: &[u8] =
+    br#"{"version":1,"columns":["sex","age"],"header":false,"ratio":[1,2],
 "distance":1,"root":["odometer"],"plans":{}}"#;
 
 /// The same with a filter of 5.
-const FILTER_FIVE: &[u8] = br#"{"version":1,"columns":["sex","age"],"header":false,"ratio":[1,2],
+pub(super) const FILTER_FIVE: &[u8] =
+    br#"{"version":1,"columns":["sex","age"],"header":false,"ratio":[1,2],
 "distance":1,"root":["filter",5],"plans":{}}"#;
 
 /// The same with a budget of two steps.
-const TWO_STEPS: &[u8] = br#"{"version":1,"columns":["sex","age"],"header":false,"ratio":[1,2],
+pub(super) const TWO_STEPS: &[u8] =
+    br#"{"version":1,"columns":["sex","age"],"header":false,"ratio":[1,2],
 "distance":1,"root":["compositor",[2,1]],"plans":{}}"#;
 
 /// The one with an odometer, where siblings stay open.
@@ -24,14 +27,14 @@ const SIBLINGS_OPEN: &[u8] =
 "distance":1,"root":["odometer"],"plans":{}}"#;
 
 /// An ask of cost 1, an ask of cost 2 and an ask of cost 3 at the root.
-const ASK_ONE: &str = r#"{"node":0,"ask":[["count"],["geometric",1,0,0]]}"#;
+pub(super) const ASK_ONE: &str = r#"{"node":0,"ask":[["count"],["geometric",1,0,0]]}"#;
 
-const ASK_TWO: &str = r#"{"node":0,"ask":[["count"],["geometric",2,0,0]]}"#;
+pub(super) const ASK_TWO: &str = r#"{"node":0,"ask":[["count"],["geometric",2,0,0]]}"#;
 
-const ASK_THREE: &str = r#"{"node":0,"ask":[["count"],["geometric",3,0,0]]}"#;
+pub(super) const ASK_THREE: &str = r#"{"node":0,"ask":[["count"],["geometric",3,0,0]]}"#;
 
 /// The texts as the lines of one text.
-fn joined(rt: &impl AllocGlobal, lines: &[&str]) -> Result<String, Fail> {
+pub(super) fn joined(rt: &impl AllocGlobal, lines: &[&str]) -> Result<String, Fail> {
     let mut text = String::new(rt.alloc());
     for line in lines {
         text.push_str(line)?;
@@ -51,7 +54,7 @@ fn account_with(
 }
 
 /// That a run ended with this status, these bytes and this line on the error output.
-fn shows(rt: &impl Abort, shown: &Shown, status: u8, out: &[u8], err: &[u8]) {
+pub(super) fn shows(rt: &impl Abort, shown: &Shown, status: u8, out: &[u8], err: &[u8]) {
     assert_eq!(rt; shown.out.as_slice(), out);
     assert_eq!(rt; shown.err.as_slice(), err);
     assert_eq!(rt; shown.status, status);
@@ -109,7 +112,7 @@ fn account_of_a_budget_of_two_steps(rt: HostRuntime) -> Result<(), Fail> {
 }
 
 /// Two nested opens, and asks at the root, the inner, the outer and no node.
-const BELOW_THE_ROOT: [&str; 6] = [
+pub(super) const BELOW_THE_ROOT: [&str; 6] = [
     r#"{"node":0,"open":[],"distance":1,"budget":["filter",4]}"#,
     r#"{"node":1,"open":[],"distance":1,"budget":["filter",2]}"#,
     ASK_ONE,

@@ -1,8 +1,10 @@
 use Rattle.std.proofs.Common.{◌∙◌, sym, ap, map, Some}
 use Rattle.std.specs.Prelude.{string_bytes}
 use Rattle.dp_runner.specs.declared.form.Form.TheVariants as form
+use Rattle.dp_runner.specs.Forms.{command}
 use Rattle.dp_runner.specs.Outcome.{Source}
-use Rattle.dp_runner.proofs.FormRuns.{of-form, account-early}
+use Rattle.dp_runner.proofs.FileRuns.{none-taken}
+use Rattle.dp_runner.proofs.FormRuns.{of-form, account-early, form-taken}
 use Rattle.dp_runner.proofs.run.run.Goals as goal
 
 pub returns-in-Some-Count-clause-runs : goal.returns-in-Some-Count-clause-runs
@@ -27,3 +29,51 @@ pub returns-in-Some-Account-clause-nothing : goal.returns-in-Some-Account-clause
 returns-in-Some-Account-clause-nothing g c = λ last.
     absurd (account-early (map string_bytes c.args.words.now) c.in-Some-Account.form
     (sym c.form_of.ensures ∙ c.in-Some-Account.is ∙ ap Some c.in-Some-Account.field-0-is) last)
+
+pub returns-in-Some-Run-clause-runs : goal.returns-in-Some-Run-clause-runs
+returns-in-Some-Run-clause-runs g c =
+    let source : Source = record { step = g.D.Draws.step; state = g.D.Draws.state c.args.draws.now } in
+    of-form (map string_bytes c.args.words.now) (form.Run c.in-Some-Run.form) source c.run_session.result _ _ _ _ _ _
+    (sym c.form_of.ensures ∙ c.in-Some-Run.is ∙ ap Some c.in-Some-Run.field-0-is) c.run_session.ensures.runs
+
+pub returns-in-Some-Replay-clause-runs : goal.returns-in-Some-Replay-clause-runs
+returns-in-Some-Replay-clause-runs g c =
+    let source : Source = record { step = g.D.Draws.step; state = g.D.Draws.state c.args.draws.now } in
+    of-form (map string_bytes c.args.words.now) (form.Replay c.in-Some-Replay.form) source c.run_replay.result _ _ _ _ _ _
+    (sym c.form_of.ensures ∙ c.in-Some-Replay.is ∙ ap Some c.in-Some-Replay.field-0-is) (c.run_replay.ensures.runs source)
+
+pub returns-in-Some-Rehearse-clause-runs : goal.returns-in-Some-Rehearse-clause-runs
+returns-in-Some-Rehearse-clause-runs g c =
+    let source : Source = record { step = g.D.Draws.step; state = g.D.Draws.state c.args.draws.now } in
+    of-form (map string_bytes c.args.words.now) (form.Rehearse c.in-Some-Rehearse.form) source c.run_rehearse.result _ _ _ _ _ _
+    (sym c.form_of.ensures ∙ c.in-Some-Rehearse.is ∙ ap Some c.in-Some-Rehearse.field-0-is) (c.run_rehearse.ensures.runs source)
+
+pub returns-in-None-clause-taken : goal.returns-in-None-clause-taken
+returns-in-None-clause-taken g c = λ other files is.
+    none-taken g.D.Draws.step ((command (map string_bytes c.args.words.now)).shape files) (g.D.Draws.state c.args.draws.now)
+
+pub returns-in-Some-Count-clause-taken : goal.returns-in-Some-Count-clause-taken
+returns-in-Some-Count-clause-taken g c = λ other files is.
+    none-taken g.D.Draws.step ((command (map string_bytes c.args.words.now)).shape files) (g.D.Draws.state c.args.draws.now)
+
+pub returns-in-Some-Check-clause-taken : goal.returns-in-Some-Check-clause-taken
+returns-in-Some-Check-clause-taken g c = λ other files is.
+    none-taken g.D.Draws.step ((command (map string_bytes c.args.words.now)).shape files) (g.D.Draws.state c.args.draws.now)
+
+pub returns-in-Some-Account-clause-taken : goal.returns-in-Some-Account-clause-taken
+returns-in-Some-Account-clause-taken g c = λ other files is.
+    none-taken g.D.Draws.step ((command (map string_bytes c.args.words.now)).shape files) (g.D.Draws.state c.args.draws.now)
+
+pub returns-in-Some-Replay-clause-taken : goal.returns-in-Some-Replay-clause-taken
+returns-in-Some-Replay-clause-taken g c = λ other files is.
+    none-taken g.D.Draws.step ((command (map string_bytes c.args.words.now)).shape files) (g.D.Draws.state c.args.draws.now)
+
+pub returns-in-Some-Rehearse-clause-taken : goal.returns-in-Some-Rehearse-clause-taken
+returns-in-Some-Rehearse-clause-taken g c = λ other files is.
+    none-taken g.D.Draws.step ((command (map string_bytes c.args.words.now)).shape files) (g.D.Draws.state c.args.draws.now)
+
+pub returns-in-Some-Run-clause-taken : goal.returns-in-Some-Run-clause-taken
+returns-in-Some-Run-clause-taken g c = λ other.
+    form-taken (map string_bytes c.args.words.now) (form.Run c.in-Some-Run.form) g.D.Draws.step (g.D.Draws.state c.args.draws.now) _
+    (g.S.Shelf.files c.args.shelf.now) (sym c.form_of.ensures ∙ c.in-Some-Run.is ∙ ap Some c.in-Some-Run.field-0-is)
+    (c.run_session.ensures.taken other)

@@ -1,0 +1,46 @@
+-- What a run that answers queries on data reads, and the draws that it takes.
+use Rattle.std.proofs.Common.{◌≡◌, ◌∙◌, ℕ, List, Option, Some, Ok, Err, sym, ap, subst}
+use Rattle.std.specs.Option.{ForSome}
+use Rattle.dp_draws.specs.Taking.{Turn}
+use Rattle.dp_io.specs.Shelf.{Files}
+use Rattle.dp_law.specs.Releasing.{TakesFront}
+use Rattle.dp_pipeline.specs.declared.content.Content.{Content}
+use Rattle.dp_session.specs.Sessions.{SessionValue, IsSessionAt}
+use Rattle.dp_store.specs.Stores.{StoreValue}
+use Rattle.dp_runner.specs.declared.stop.Stop.{Stop}
+use Rattle.dp_runner.specs.Answering.{file_shape}
+use Rattle.dp_runner.specs.Pipelines.{pipeline_at}
+use Rattle.dp_runner.specs.Sessions.{SessionForm, Opened, stored, opened_by, file_records, opened, on_records, shape_on, form_shape}
+use Rattle.dp_runner.proofs.Steps.{bind-ok, bind-err}
+
+-- the pipeline's file decides
+pub opened-no_pipeline : (form : SessionForm) (files : Files) (name : List ℕ) (reason : Stop) → name ≡ form.pipeline_name
+    → pipeline_at files name ≡ Err reason → opened form files ≡ Err reason
+unfolding opened
+opened-no_pipeline form files name reason same fails =
+    bind-err (pipeline_at files form.pipeline_name) _ reason (ap (pipeline_at files) (sym same) ∙ fails)
+
+-- the file of the data decides
+pub opened-data : (form : SessionForm) (files : Files) (name data_name : List ℕ) (pipeline : Content)
+    → name ≡ form.pipeline_name → data_name ≡ form.data_name → pipeline_at files name ≡ Ok pipeline
+    → opened form files ≡ file_records files data_name pipeline
+unfolding opened
+opened-data form files name data_name pipeline same same_data read =
+    bind-ok (pipeline_at files form.pipeline_name) (λ p. file_records files form.data_name p) pipeline (ap (pipeline_at files) (sym same) ∙ read)
+    ∙ ap (λ (n : List ℕ). file_records files n pipeline) (sym same_data)
+
+-- the session has both
+pub opened-both : (session : SessionValue) (pipeline : Content) (store : StoreValue) (past : List (List ℕ))
+    → IsSessionAt session pipeline store.records past → stored pipeline store ≡ opened_by session
+opened-both session pipeline store past h =
+    ap (λ (p : Content). stored p store) (sym h.pipeline_is)
+    ∙ ap (λ (rows : List (List (List ℕ))). let both : Opened = record { pipeline = session.queries.pipeline; rows = rows } in both) (sym h.records_are)
+
+-- the draws of the queries are those of the run
+pub run-taken : (step : List ℕ → ℕ → Turn) (before after : List ℕ) (form : SessionForm) (told : Option Files) (found : Opened)
+    → ForSome told (λ files. opened form files ≡ Ok found)
+    → ForSome told (λ files. TakesFront step (file_shape (on_records found) files form.queries_name) before after)
+    → ForSome told (λ files. TakesFront step (form_shape form files) before after)
+unfolding form_shape
+run-taken step before after form told found read h = λ files is.
+    subst (λ shape. TakesFront step shape before after) (sym (ap (shape_on form files) (read files is))) (h files is)
