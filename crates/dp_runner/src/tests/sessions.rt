@@ -1,3 +1,5 @@
+ghost use Rattle.std.specs.Prelude.{◌≤◌};
+
 use super::account::{
     ASK_ONE, ASK_THREE, ASK_TWO, BELOW_THE_ROOT, FILTER_FIVE, ODOMETER, TWO_STEPS, joined, shows,
 };
