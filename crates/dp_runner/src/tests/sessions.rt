@@ -340,7 +340,7 @@ fn one_ask() -> Texts<'static> {
     Texts {
         pipeline: ODOMETER,
         data: TWO_RECORDS,
-        queries: ASK_ONE.as_bytes(),
+        queries: b"{\"node\":0,\"ask\":[[\"count\"],[\"geometric\",1,0,0]]}\n",
         draws: b"0",
     }
 }
