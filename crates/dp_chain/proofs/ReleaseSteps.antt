@@ -16,7 +16,7 @@ use Rattle.dp_domain.specs.declared.domains.Domain.{Domain}
 use Rattle.dp_domain.specs.declared.metrics.Metric.{Metric}
 use Rattle.dp_law.proofs.JoiningLaw.{added-le}
 use Rattle.dp_law.proofs.JoinedReleases.{front-stops, back-stops, both-answers, join-memory}
-use Rattle.dp_chain.specs.Releases.{joined_shape, joined_answer, all_pieces, total_loss, HaveInput, AreAlike}
+use Rattle.dp_chain.specs.Releases.{joined_shape, joined_answer, all_pieces, total_loss, TakeAll, AreAlike}
 
 none-is : {T : Type 0} (xs : List T) → length xs ≡ 0 → xs ≡ []
 none-is [] h = refl
@@ -50,8 +50,8 @@ pub total-le : (parts : List Mechanism) (d k : ℕ) → Some k ≡ total_loss pa
 total-le [] d k is = let none : 0 ≡ k = cc (loss-nil d) in omega arith
 total-le (first ∷ rest) d k is = added-le (first.privacy_map d) (total_loss rest d) k (sym (is ∙ loss-cons first rest d))
 
-input-cons : (first : Mechanism) (rest : List Mechanism) (v : Value) → HaveInput v (first ∷ rest) → Has first.input_domain v × HaveInput v rest
-unfolding HaveInput
+input-cons : (first : Mechanism) (rest : List Mechanism) (P : Domain → Type 0) → TakeAll P (first ∷ rest) → P first.input_domain × TakeAll P rest
+unfolding TakeAll
 input-cons first rest v have = have
 
 released-cons : (step : List ℕ → ℕ → Turn) (first : Mechanism) (rest : List Mechanism) (v : Value) (before after : List ℕ) (result : Result (List Piece) ReleaseFault) →
@@ -101,8 +101,8 @@ module _ {T : Type 0} (f : T → Mechanism) where
   losses-add xs x rest d front back is one others =
       sym (loss-first xs x rest d is ∙ ap (λ (o : Option ℕ). added o (total_loss (map f rest) d)) (sym one) ∙ ap (λ (o : Option ℕ). added (Some front) o) (sym others))
 
-  pub input-first : (xs : List T) (x : T) (rest : List T) (v : Value) → xs ≡ x ∷ rest → HaveInput v (map f xs) → Has (f x).input_domain v × HaveInput v (map f rest)
-  input-first xs x rest v is have = input-cons (f x) (map f rest) v (subst (λ (ys : List T). HaveInput v (map f ys)) is have)
+  pub input-first : (xs : List T) (x : T) (rest : List T) (P : Domain → Type 0) → xs ≡ x ∷ rest → TakeAll P (map f xs) → P (f x).input_domain × TakeAll P (map f rest)
+  input-first xs x rest P is take = input-cons (f x) (map f rest) P (subst (λ (ys : List T). TakeAll P (map f ys)) is take)
 
   released-at : (step : List ℕ → ℕ → Turn) (xs : List T) (x : T) (rest : List T) (v : Value) (before after : List ℕ) (result : Result (List Piece) ReleaseFault) → xs ≡ x ∷ rest →
       Released step ((f x).shape ++ joined_shape (map f rest)) (λ draws. (f x).function v (take (length (f x).shape) draws) ++ joined_answer (map f rest) v (drop (length (f x).shape) draws)) before result after →
@@ -146,8 +146,8 @@ module _ {T : Type 0} (f : T → Mechanism) where
       (rw joined (both-answers step (f x).shape (joined_shape (map f rest)) ((f x).function v) (joined_answer (map f rest) v) before mid after front back h k))
 
 -- a value of the one input domain is in the input domain of each part
-pub alike-input : (ratio : Fraction) (domain : Domain) (metric : Metric) (parts : List Mechanism) (v : Value) → AreAlike ratio domain metric parts → Has domain v → HaveInput v parts
-unfolding AreAlike HaveInput
-alike-input ratio domain metric [] v alike has = tt
-alike-input ratio domain metric (first ∷ rest) v alike has =
-    (subst (λ (d : Domain). Has d v) (sym alike.0.input_domain) has, alike-input ratio domain metric rest v alike.1 has)
+pub alike-input : (ratio : Fraction) (domain : Domain) (metric : Metric) (parts : List Mechanism) (P : Domain → Type 0) → AreAlike ratio domain metric parts → P domain → TakeAll P parts
+unfolding AreAlike TakeAll
+alike-input ratio domain metric [] P alike takes = tt
+alike-input ratio domain metric (first ∷ rest) P alike takes =
+    (subst P (sym alike.0.input_domain) takes, alike-input ratio domain metric rest P alike.1 takes)

@@ -90,7 +90,7 @@ unfoldable pub AreAlike : Fraction → Domain → Metric → List Mechanism → 
 AreAlike ratio domain metric [] = Unit {0}
 AreAlike ratio domain metric (first ∷ rest) = IsLike ratio domain metric first × AreAlike ratio domain metric rest
 
--- the value is in the input domain of each of the measurements
-unfoldable pub HaveInput : Value → List Mechanism → Type 0
-HaveInput v [] = Unit {0}
-HaveInput v (first ∷ rest) = Has first.input_domain v × HaveInput v rest
+-- a fact of the input domain of each of the measurements
+unfoldable pub TakeAll : (Domain → Type 0) → List Mechanism → Type 0
+TakeAll P [] = Unit {0}
+TakeAll P (first ∷ rest) = P first.input_domain × TakeAll P rest

@@ -1,10 +1,10 @@
 ghost use Rattle.std.specs.Prelude.{Some, ◌≡◌, ◌≤◌, ◌^◌, ◌++◌, ◌∷◌, [], length, IfOk, OnOk, OnErr};
 ghost use Rattle.std.specs.Result.{result_ok};
-ghost use Rattle.dp_domain.specs.Domains.{Fits, Has};
+ghost use Rattle.dp_domain.specs.Domains.{Fits};
 ghost use Rattle.dp_domain.specs.Metrics.{SuitsMetric};
 ghost use Rattle.dp_domain.proofs.Limits.{Fits-prop};
 ghost use Rattle.dp_law.specs.Making.{MakesOr};
-ghost use Rattle.dp_chain.specs.Releases.{release_on, part_on, joined_shape, joined_answer, all_pieces, total_loss, cost_of, AreAlike, IsLike, HaveInput};
+ghost use Rattle.dp_chain.specs.Releases.{release_on, part_on, joined_shape, joined_answer, all_pieces, total_loss, cost_of, AreAlike, IsLike, TakeAll};
 ghost use Rattle.dp_chain.specs.Meanings.{fraction_of};
 ghost use Rattle.dp_chain.specs.PartMeanings.{part_mechanism, part_mechanisms};
 ghost use Rattle.dp_chain.specs.ReleasesProof.{AreAlike-prop};
@@ -91,7 +91,7 @@ impl Release {
         input: &I,
         draws: &mut D,
     ) -> Result<Answer, ReleaseFault>
-        requires { let m = ⟦<Release as Measurement>⟧.mechanism self.now in Has m.input_domain (I.stands_for input.now) }
+        requires { let m = ⟦<Release as Measurement>⟧.mechanism self.now in I.takes input.now m.input_domain }
         ensures released { let m = ⟦<Release as Measurement>⟧.mechanism self.now in
             Released D.step m.shape (m.function (I.stands_for input.now))
             (D.state draws.old) result (D.state draws.new) }
@@ -274,7 +274,7 @@ fn release_each<I: Input, D: Draws>(
     input: &I,
     draws: &mut D,
 ) -> Result<Answer, ReleaseFault>
-    requires { HaveInput (I.stands_for input.now) (part_mechanisms parts.now) }
+    requires { TakeAll (I.takes input.now) (part_mechanisms parts.now) }
     ensures released { let parts = part_mechanisms parts.now in
         Released D.step (joined_shape parts) (joined_answer parts (I.stands_for input.now))
         (D.state draws.old) result (D.state draws.new) }
@@ -302,7 +302,7 @@ fn release_part<I: Input, D: Draws>(
     input: &I,
     draws: &mut D,
 ) -> Result<Answer, ReleaseFault>
-    requires { let m = part_mechanism part.now in Has m.input_domain (I.stands_for input.now) }
+    requires { let m = part_mechanism part.now in I.takes input.now m.input_domain }
     ensures released { let m = part_mechanism part.now in
         Released D.step m.shape (m.function (I.stands_for input.now))
         (D.state draws.old) result (D.state draws.new) }

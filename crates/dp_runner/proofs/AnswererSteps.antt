@@ -12,4 +12,4 @@ pub session-own : (session : SessionValue) (pipeline : Content) (rows : List (Li
     → IsSessionAt session pipeline rows past
     → IsSessionAt session session.queries.pipeline session.store.records past
 session-own session pipeline rows past h =
-    record { live = h.live; pipeline_is = refl; records_are = refl; queries = h.queries }
+    record { live = h.live; pipeline_is = refl; records_are = refl; at = h.at }

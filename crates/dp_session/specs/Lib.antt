@@ -7,6 +7,8 @@ pub mod Runs
 pub mod RunWays
 pub mod SessionLines
 pub mod Sessions
+pub mod Serving
 pub mod Settling
+pub mod Values
 pub mod Works
 pub mod Verdicts

@@ -9,7 +9,7 @@ use Rattle.dp_law.specs.Mechanism.{Mechanism}
 use Rattle.dp_pipeline.specs.declared.content.Content.{Content}
 use Rattle.dp_session.specs.AnswerText.{answer_text}
 use Rattle.dp_session.specs.QueryLines.{query_line, account_line, end_line}
-use Rattle.dp_session.specs.Runs.{Reply, Refused, Opened, Answered, value_at, query_shape}
+use Rattle.dp_session.specs.Runs.{Reply, Answered, value_at, query_shape}
 use Rattle.dp_session.specs.Verdicts.{granted, verdict, units}
 
 -- ---- lines by their draws

@@ -11,6 +11,8 @@ use std::alloc::Global;
 use std::process::Abort;
 use std::test::Fail;
 
+mod scan;
+
 /// Five records of two persons, whom the first column names.
 const PERSONS: &[u8] = b"a,x\nb,y\na,w\na,x\nb,y\n";
 

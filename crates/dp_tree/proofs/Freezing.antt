@@ -98,7 +98,7 @@ second-part true a o h = absurd cc
 second-part false a o h = (refl, h)
 
 -- no query after number i was addressed to any of the nodes
-later-none : (last : ℕ → ℕ) (i : ℕ) (gs : List ℕ) (g : ℕ) → nearest_later (λ n. n) last i gs ≡ None →
+pub later-none : (last : ℕ → ℕ) (i : ℕ) (gs : List ℕ) (g : ℕ) → nearest_later (λ n. n) last i gs ≡ None →
     list_any (λ above. eqb above g) gs ≡ true → last g ≤ i
 later-none last i [] g h k = absurd cc
 later-none last i (x ∷ gs) g h k =
@@ -135,13 +135,13 @@ free-node root past i h = go (node_at root past i) refl h
     go (Some node) e h = (node, e, h)
 
 -- a node that a query did not open was as it is
-not-opened : (root : Seat) (past : List Event) (e : Event) (i : ℕ) → opens e i ≡ false →
+pub not-opened : (root : Seat) (past : List Event) (e : Event) (i : ℕ) → opens e i ≡ false →
     (node_at root (e ∷ past) i ≡ node_at root past i) × (ancestors (e ∷ past) i ≡ ancestors past i)
 not-opened root past (Ask q n c) i h = (refl, refl)
 not-opened root past (Open q n seat m) i h = (rw h refl, rw h refl)
 
 -- a node that is not frozen after a query was not frozen before, unless the query opened it, and does not stand below its node
-free-before : (root : Seat) (past : List Event) (e : Event) (i : ℕ) → Accepted root (e ∷ past) → opens e i ≡ false →
+pub free-before : (root : Seat) (past : List Event) (e : Event) (i : ℕ) → Accepted root (e ∷ past) → opens e i ≡ false →
     find_fault false root (e ∷ past) i ≡ None → (find_fault false root past i ≡ None) × (is_under past (node_of e) i ≡ false)
 free-before root past e i a other h =
     let free = free-node root (e ∷ past) i h in

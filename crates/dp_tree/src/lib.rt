@@ -12,6 +12,7 @@ mod tree;
 mod walk;
 
 pub use faults::{FindFault, SeatFault};
+pub use places::place;
 pub use tree::Tree;
 
 #[cfg(test)]

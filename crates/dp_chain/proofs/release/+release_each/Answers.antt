@@ -9,7 +9,7 @@ returns-in_default-clause-released g t c =
 
 pub release_part-requires : goal.release_part-requires
 release_part-requires g t c =
-    (input-first part_mechanism c.args.parts.now c.in-Some.first.now c.in-Some.rest.now (g.I.Input.stands_for c.args.input.now) c.in-Some.ensures.cases.0 c.requires).0
+    (input-first part_mechanism c.args.parts.now c.in-Some.first.now c.in-Some.rest.now (g.I.Input.takes c.args.input.now) c.in-Some.ensures.cases.0 c.requires).0
 
 pub release_each-requires : goal.release_each-requires
 release_each-requires g t c =
@@ -20,7 +20,7 @@ release_each-requires g t c =
         within.0,
         (
           within.1,
-          (input-first part_mechanism c.args.parts.now c.in-Some.first.now c.in-Some.rest.now (g.I.Input.stands_for c.args.input.now) c.in-Some.ensures.cases.0 c.requires).1,
+          (input-first part_mechanism c.args.parts.now c.in-Some.first.now c.in-Some.rest.now (g.I.Input.takes c.args.input.now) c.in-Some.ensures.cases.0 c.requires).1,
         ),
       ),
     )

@@ -26,4 +26,4 @@ lands part line noise v between same_line same_noise is h =
 pub release-requires : goal.release-requires
 release-requires g c =
     lands c.args.part.now c.first.result.now c.second.result.now (g.I.Input.stands_for c.args.input.now) c.in-Ok.between c.first.ensures c.second.ensures
-    c.in-Ok.ensures c.requires
+    c.in-Ok.ensures (g.met.I.Input.has_value c.args.input.now (part_mechanism c.args.part.now).input_domain c.requires)

@@ -1,0 +1,5 @@
+pub mod EachRelease
+pub mod GroupInputs
+pub mod GroupTexts
+pub mod OneMore
+pub mod Repeating

@@ -1,0 +1,7 @@
+pub mod AnswersProof
+pub mod ColumnProof
+pub mod Grouped
+pub mod GroupedLaw
+pub mod GroupedProof
+pub mod OneMore
+pub mod StepsProof
