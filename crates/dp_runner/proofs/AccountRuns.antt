@@ -24,10 +24,12 @@ use Rattle.dp_runner.proofs.PipelineSteps.{pipeline-read}
 use Rattle.dp_runner.proofs.Runs.{runs-same, runs-own}
 
 -- the queries of a file, where the account has this pipeline and the file this name
-pub runs-accounted : (result : Result (Unit {0}) Stop) (source : Source) (told : Option Files) (kept pipeline : Content) (name queries : List ℕ)
+pub runs-accounted : (result : Result (Unit {0}) Stop) (source : Source) (told : Option Files) (kept pipeline : Content)
+    (name queries : List ℕ)
     (before now : ℕ) (old new : Option (List ℕ)) (last : List ℕ) → kept ≡ pipeline → name ≡ queries
     → Runs result told (λ files. file_answered no_source (account_answering kept) files name) before now old new last
-    → Runs result told (λ files. once_read source (accounted source pipeline) (or_stop stop.ReadFault (files queries))) before now old new source.state
+    → Runs result told (λ files. once_read source (accounted source pipeline) (or_stop stop.ReadFault (files queries))) before now old
+    new source.state
 runs-accounted result source told kept pipeline name queries before now old new last same same_name h =
     runs-same result told (λ files. by_own_draws source (file_answered no_source (account_answering kept) files name))
     (λ files. once_read source (accounted source pipeline) (or_stop stop.ReadFault (files queries)))
@@ -40,7 +42,8 @@ runs-accounted result source told kept pipeline name queries before now old new 
 -- ---- the law
 
 accounted-all : (source : Source) (pipeline : Content) (text : List ℕ) → has_line_over (2 ^ 20) text ≡ false
-    → IsDone (accounted source pipeline text) (account_lines pipeline [] (lines_of text) ++ end_line (length (lines_of text)) (units pipeline (lines_of text))) source.state
+    → IsDone (accounted source pipeline text) (account_lines pipeline [] (lines_of text) ++ end_line (length (lines_of text))
+    (units pipeline (lines_of text))) source.state
 unfolding accounted
 accounted-all source pipeline text none =
     rw (none, within-all (2 ^ 20) text none) (record { bytes_are = refl; stop_is = refl; last_is = refl })
@@ -54,11 +57,13 @@ account-complete form files source text queries content has_text is_pipeline has
     (pipeline-read files form.pipeline_name text content has_text is_pipeline)
     ∙ ap (λ found. once_read source (accounted source content) (or_stop stop.ReadFault found)) has_queries
 
-pub account-done : (words : List (List ℕ)) (files : Files) (source : Source) (account : AccountForm) (text queries : List ℕ) (content : Content)
+pub account-done : (words : List (List ℕ)) (files : Files) (source : Source) (account : AccountForm) (text queries : List ℕ)
+    (content : Content)
     → form_of words ≡ Some (form.Account account) → files account.pipeline_name ≡ Some text → accepted text ≡ Ok content
     → files account.queries_name ≡ Some queries → has_line_over (2 ^ 20) queries ≡ false
     → IsDone (outcome words files source)
     (account_lines content [] (lines_of queries) ++ end_line (length (lines_of queries)) (units content (lines_of queries))) source.state
 account-done words files source account text queries content is has_text is_pipeline has_queries none =
     form-done words (form.Account account) files source _ source.state is
-    (rw (account-complete account files source text queries content has_text is_pipeline has_queries) (accounted-all source content queries none))
+    (rw (account-complete account files source text queries content has_text is_pipeline has_queries)
+    (accounted-all source content queries none))

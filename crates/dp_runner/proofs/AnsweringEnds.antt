@@ -39,7 +39,8 @@ pub turn-ends : (reason : Stop) (stands next : List (List ℕ) → Type 0) (answ
     → before ≡ suc after → (s : Standing stands answering source start left old held turn before)
     → Turns (Err reason) next answering s.past (from source last) left rest held new
     → (reason ≡ stop.ReadFault → Rose faults_before faults_now)
-    → RunsTo (Err reason) (option_map (answered (source_at source.step source.before) answering) start) faults_before faults_now old new last
+    → RunsTo (Err reason) (option_map (answered (source_at source.step source.before) answering) start) faults_before faults_now old
+    new last
 turn-ends stop.ReadFault stands next answering source last start left rest old held new turn before after fb fn one s h rose =
     (rose refl, ends-early stands answering source start left old held new turn before s h.1)
 turn-ends stop.DrawFault stands next answering source last start left rest old held new turn before after fb fn one s h rose =
@@ -69,7 +70,8 @@ pub end-ends : (result : Result (Unit {0}) Stop) (stands : List (List ℕ) → T
     → WritesLines answering → (s : Standing stands answering source start rest old held turn most)
     → ForSome rest (λ text. text ≡ []) → mid ≡ held
     → Ends result (answering.last_line s.past) mid new
-    → RunsTo result (option_map (answered (source_at source.step source.before) answering) start) faults_before faults_now old new source.after
+    → RunsTo result (option_map (answered (source_at source.step source.before) answering) start) faults_before faults_now old new
+    source.after
 end-ends (Ok done) stands answering source start rest old held mid new turn most fb fn writes s none same h =
     ends-done stands answering source start rest old held new turn most writes s none
     (h ∙ ap (λ b. appended b (answering.last_line s.past)) same)
@@ -142,7 +144,8 @@ taken-next stands answering source last line start left old held turn before aft
     (front-joined source.before source.after last s.shape front.0 front.1
     (shape_to_come answering after (first_line text ∷ s.past) (after_first_line text)) s.draws front.2 source.step s.taken front.4))
 
-all-taken : (source : Drawing) (shape draws : List ℕ) → Gives source shape (Some draws) → TakesFront source.step shape source.before source.after
+all-taken : (source : Drawing) (shape draws : List ℕ) → Gives source shape (Some draws)
+    → TakesFront source.step shape source.before source.after
 all-taken source shape draws taken = (shape, [], draws, sym (append-nil shape), taken)
 
 pub turn-taken : (reason : Stop) (stands next : List (List ℕ) → Type 0) (answering : Answering) (source : Drawing) (last : List ℕ)

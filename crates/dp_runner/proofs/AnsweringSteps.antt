@@ -93,7 +93,8 @@ twice a b outcome =
     ap (λ bytes. let done : Outcome = record { bytes = bytes; stop = outcome.stop; last = outcome.last } in done)
     (sym (append_assoc a b outcome.bytes))
 
-line-comes : (answering : Answering) (source : Drawing) (most : ℕ) (past : List (List ℕ)) (bytes line text draws : List ℕ) → IsFirst line text
+line-comes : (answering : Answering) (source : Drawing) (most : ℕ) (past : List (List ℕ)) (bytes line text draws : List ℕ)
+    → IsFirst line text
     → Gives source (answering.slot past line).shape (Some draws)
     → preceded_by bytes (to_come source.step answering (suc most) past text source.before)
     ≡ preceded_by (bytes ++ (answering.slot past line).out draws)
@@ -107,7 +108,8 @@ line-comes answering source most past bytes line text draws first taken =
     ∙ ap (λ l. preceded_by (bytes ++ (answering.slot past l).out draws)
     (to_come source.step answering most (l ∷ past) (after_first_line text) source.after)) (sym first.line_is)
 
-lines-come : (answering : Answering) (source : Drawing) (most : ℕ) (past : List (List ℕ)) (bytes line draws : List ℕ) (left rest : Option (List ℕ))
+lines-come : (answering : Answering) (source : Drawing) (most : ℕ) (past : List (List ℕ)) (bytes line draws : List ℕ)
+    (left rest : Option (List ℕ))
     → ForSome left (λ text. IsFirst line text) → rest ≡ option_map after_first_line left
     → Gives source (answering.slot past line).shape (Some draws)
     → option_map (λ text. preceded_by bytes (to_come source.step answering (suc most) past text source.before)) left
@@ -123,7 +125,8 @@ line-shapes : (answering : Answering) (most : ℕ) (past : List (List ℕ)) (sha
 line-shapes answering most past shape line text first =
     let short : length (first_line text) ≤ 65536 = rw first.line_is at first.short in
     ap (λ s. shape ++ s) (shape-line answering most past text first.some short)
-    ∙ ap (λ l. shape ++ ((answering.slot past l).shape ++ shape_to_come answering most (l ∷ past) (after_first_line text))) (sym first.line_is)
+    ∙ ap (λ l. shape ++ ((answering.slot past l).shape ++ shape_to_come answering most (l ∷ past) (after_first_line text)))
+    (sym first.line_is)
     ∙ sym (append_assoc shape (answering.slot past line).shape (shape_to_come answering most (line ∷ past) (after_first_line text)))
 
 shapes-come : (answering : Answering) (most : ℕ) (past : List (List ℕ)) (shape line : List ℕ) (left rest : Option (List ℕ))
@@ -152,9 +155,11 @@ standing-more stands next answering source last start left rest old held new tur
       count = let count = s.count in omega arith;
       gained = given.2 ∙ ap (λ h. appended h text) s.gained ∙ appended-append old s.bytes text;
       whole = lines-append s.bytes text s.whole (writes.each s.past line given.0);
-      taken = taken-both source.step source.before source.after last s.shape (answering.slot s.past line).shape s.draws given.0 s.taken given.1;
+      taken = taken-both source.step source.before source.after last s.shape
+      (answering.slot s.past line).shape s.draws given.0 s.taken given.1;
       coming = (rw one at s.coming)
-          ∙ lines-come answering (from source last) after s.past s.bytes line given.0 left rest answered.reads.first answered.rest_is given.1;
+          ∙ lines-come answering (from source last) after s.past s.bytes line given.0 left rest answered.reads.first answered.rest_is
+          given.1;
       shapes = (rw one at s.shapes) ∙ shapes-come answering after s.past s.shape line left rest answered.reads.first answered.rest_is;
     }
 
@@ -175,7 +180,8 @@ start-told answering source None = refl
 start-told answering source (Some text) = ap Some (answered-is (source_at source.step source.before) answering text)
 
 -- what holds of the lines so far before what is to come holds of what is told
-told-coming : (stands : List (List ℕ) → Type 0) (answering : Answering) (source : Drawing) (start rest old held : Option (List ℕ)) (turn most : ℕ)
+told-coming : (stands : List (List ℕ) → Type 0) (answering : Answering) (source : Drawing) (start rest old held : Option (List ℕ))
+    (turn most : ℕ)
     (P : Outcome → Type 0) → (s : Standing stands answering source start rest old held turn most)
     → ((text : List ℕ) → rest ≡ Some text → P (preceded_by s.bytes (to_come source.step answering most s.past text source.after)))
     → ForSome (option_map (answered (source_at source.step source.before) answering) start) P
@@ -184,7 +190,8 @@ told-coming stands answering source start rest old held turn most P s h =
     (start-told answering source start ∙ s.coming) h
 
 -- some of the lines
-pub ends-early : (stands : List (List ℕ) → Type 0) (answering : Answering) (source : Drawing) (start rest old held new : Option (List ℕ)) (turn most : ℕ)
+pub ends-early : (stands : List (List ℕ) → Type 0) (answering : Answering) (source : Drawing)
+    (start rest old held new : Option (List ℕ)) (turn most : ℕ)
     → Standing stands answering source start rest old held turn most → new ≡ held
     → ForSome (option_map (answered (source_at source.step source.before) answering) start) (λ outcome. AddsLines old new outcome.bytes)
 ends-early stands answering source start rest old held new turn most s same =
@@ -211,22 +218,26 @@ stop-done reason come last bytes old held new is gained same whole = rw is (reco
 })
 
 -- a line that is too long
-pub ends-long : (stands : List (List ℕ) → Type 0) (answering : Answering) (source : Drawing) (start rest old held new : Option (List ℕ)) (turn most : ℕ)
+pub ends-long : (stands : List (List ℕ) → Type 0) (answering : Answering) (source : Drawing)
+    (start rest old held new : Option (List ℕ)) (turn most : ℕ)
     → Standing stands answering source start rest old held turn most → ForSome rest (λ text. 65536 < length (first_line text)) → new ≡ held
     → ForSome (option_map (answered (source_at source.step source.before) answering) start)
     (λ outcome. HasDone outcome (Some stop.QueryLimit) old new source.after)
 ends-long stands answering source start rest old held new turn most s long same =
-    told-coming stands answering source start rest old held turn most (λ outcome. HasDone outcome (Some stop.QueryLimit) old new source.after) s
+    told-coming stands answering source start rest old held turn most
+    (λ outcome. HasDone outcome (Some stop.QueryLimit) old new source.after) s
     (λ text is. stop-done stop.QueryLimit (to_come source.step answering most s.past text source.after) source.after s.bytes old held new
     (to_come-long source.step answering most s.past text source.after (long text is)) s.gained same s.whole)
 
 -- a line too many
-pub ends-over : (stands : List (List ℕ) → Type 0) (answering : Answering) (source : Drawing) (start rest old held new : Option (List ℕ)) (turn most : ℕ)
+pub ends-over : (stands : List (List ℕ) → Type 0) (answering : Answering) (source : Drawing)
+    (start rest old held new : Option (List ℕ)) (turn most : ℕ)
     → Standing stands answering source start rest old held turn most → most ≡ 0 → ForSome rest (λ text. 0 < length text) → new ≡ held
     → ForSome (option_map (answered (source_at source.step source.before) answering) start)
     (λ outcome. HasDone outcome (Some stop.QueryLimit) old new source.after)
 ends-over stands answering source start rest old held new turn most s zero some same =
-    told-coming stands answering source start rest old held turn most (λ outcome. HasDone outcome (Some stop.QueryLimit) old new source.after) s
+    told-coming stands answering source start rest old held turn most
+    (λ outcome. HasDone outcome (Some stop.QueryLimit) old new source.after) s
     (λ text is. stop-done stop.QueryLimit (to_come source.step answering most s.past text source.after) source.after s.bytes old held new
     (rw zero (to_come-zero source.step answering s.past text source.after (some text is))) s.gained same s.whole)
 
@@ -242,10 +253,12 @@ ends-failed stands answering source last start rest old held new turn before aft
     (λ text is. let first = reads.first text is in
     let short : length (first_line text) ≤ 65536 = rw first.line_is at first.short in
     stop-done stop.DrawFault (to_come source.step answering before s.past text source.after) last s.bytes old held new
-    (rw one (to_come-fails source.step answering after s.past text source.after last first.some short (rw first.line_is at reads.answers.0)))
+    (rw one (to_come-fails source.step answering after s.past text source.after last first.some short
+    (rw first.line_is at reads.answers.0)))
     s.gained reads.answers.1 s.whole)
 
-end-done : (come : Outcome) (last bytes end : List ℕ) (old held new : Option (List ℕ)) → come ≡ record { bytes = end; stop = None; last = last }
+end-done : (come : Outcome) (last bytes end : List ℕ) (old held new : Option (List ℕ))
+    → come ≡ record { bytes = end; stop = None; last = last }
     → held ≡ appended old bytes → new ≡ appended held end → are_lines bytes ≡ true → are_lines end ≡ true
     → HasDone (preceded_by bytes come) None old new last
 end-done come last bytes end old held new is gained written whole ended = rw is (record {
@@ -256,13 +269,16 @@ end-done come last bytes end old held new is gained written whole ended = rw is 
 })
 
 -- the last line was written
-pub ends-done : (stands : List (List ℕ) → Type 0) (answering : Answering) (source : Drawing) (start rest old held new : Option (List ℕ)) (turn most : ℕ)
+pub ends-done : (stands : List (List ℕ) → Type 0) (answering : Answering) (source : Drawing)
+    (start rest old held new : Option (List ℕ)) (turn most : ℕ)
     → WritesLines answering → (s : Standing stands answering source start rest old held turn most) → ForSome rest (λ text. text ≡ [])
     → new ≡ appended held (answering.last_line s.past)
-    → ForSome (option_map (answered (source_at source.step source.before) answering) start) (λ outcome. HasDone outcome None old new source.after)
+    → ForSome (option_map (answered (source_at source.step source.before) answering) start)
+    (λ outcome. HasDone outcome None old new source.after)
 ends-done stands answering source start rest old held new turn most writes s none written =
     told-coming stands answering source start rest old held turn most (λ outcome. HasDone outcome None old new source.after) s
-    (λ text is. end-done (to_come source.step answering most s.past text source.after) source.after s.bytes (answering.last_line s.past) old held new
+    (λ text is. end-done (to_come source.step answering most s.past text source.after) source.after s.bytes
+    (answering.last_line s.past) old held new
     (to_come-none source.step answering most s.past text source.after (none text is)) s.gained written s.whole (writes.last s.past))
 
 front-after : (bytes front rest more : List ℕ) (old held new : Option (List ℕ)) → held ≡ appended old bytes → new ≡ appended held front
@@ -280,7 +296,8 @@ front-more bytes line more old held new gained h =
     rw h.split (front-after bytes h.front h.rest more old held new gained h.gained)
 
 -- a front of the last line was written
-pub ends-cut : (stands : List (List ℕ) → Type 0) (answering : Answering) (source : Drawing) (start rest old held new : Option (List ℕ)) (turn most : ℕ)
+pub ends-cut : (stands : List (List ℕ) → Type 0) (answering : Answering) (source : Drawing) (start rest old held new : Option (List ℕ))
+    (turn most : ℕ)
     → (s : Standing stands answering source start rest old held turn most) → ForSome rest (λ text. text ≡ [])
     → AddsFront held new (answering.last_line s.past)
     → ForSome (option_map (answered (source_at source.step source.before) answering) start) (λ outcome. AddsFront old new outcome.bytes)

@@ -32,7 +32,8 @@ open-reason open_fault.Failed told name before now cause =
     (cause refl)
 open-reason open_fault.NoMemory told name before now cause = tt
 
-pub runs-told : (result : Result (Unit {0}) Stop) (told : Option Files) (right : Files → Outcome) (coming : Option Outcome) (before mid now : ℕ)
+pub runs-told : (result : Result (Unit {0}) Stop) (told : Option Files) (right : Files → Outcome) (coming : Option Outcome)
+    (before mid now : ℕ)
     (old new : Option (List ℕ)) (last : List ℕ)
     → before ≤ mid → ((files : Files) → told ≡ Some files → coming ≡ Some (right files))
     → RunsTo result coming mid now old new last → Runs result told right before now old new last
@@ -48,7 +49,8 @@ some-is None h = absurd (cc)
 some-is (Some text) h = (text, refl)
 
 -- an opened file starts with its whole text
-pub file-told : (told : Option Files) (files : Files) (name : List ℕ) (left : Option (List ℕ)) → told ≡ Some files → StartsFile told name left
+pub file-told : (told : Option Files) (files : Files) (name : List ℕ) (left : Option (List ℕ)) → told ≡ Some files
+    → StartsFile told name left
     → (text : List ℕ) × (files name ≡ Some text) × (left ≡ Some text)
 file-told None files name left e h = absurd (cc)
 file-told (Some others) files name left e h =
@@ -62,7 +64,8 @@ remaining-fresh : (lines : LinesValue) (slot : ℕ) (left : Option (List ℕ)) (
 remaining-fresh lines slot left text fresh is = rw (fresh, is) refl
 
 -- what is told at the start: the reader of lines begins at the front of the file
-pub told-file : (source : Source) (answering : Answering) (told : Option Files) (files : Files) (name : List ℕ) (lines : LinesValue) (slot : ℕ)
+pub told-file : (source : Source) (answering : Answering) (told : Option Files) (files : Files) (name : List ℕ) (lines : LinesValue)
+    (slot : ℕ)
     (left : Option (List ℕ))
     → lines ≡ record { slot = slot; line = []; read_ahead = []; at_end = false } → told ≡ Some files → StartsFile told name left
     → option_map (answered source answering) (remaining lines left) ≡ Some (file_answered source answering files name)
@@ -72,7 +75,8 @@ told-file source answering told files name lines slot left fresh is starts =
     ∙ ap (λ (text : Option (List ℕ)). Some (once_read source (answered source answering) (or_stop stop.ReadFault text))) (sym found.1)
 
 -- what is taken of the draws of what remains is taken of those of the file
-pub file-taken : (step : List ℕ → ℕ → Turn) (before after : List ℕ) (answering : Answering) (told : Option Files) (name : List ℕ) (lines : LinesValue)
+pub file-taken : (step : List ℕ → ℕ → Turn) (before after : List ℕ) (answering : Answering) (told : Option Files) (name : List ℕ)
+    (lines : LinesValue)
     (slot : ℕ) (left : Option (List ℕ))
     → lines ≡ record { slot = slot; line = []; read_ahead = []; at_end = false } → StartsFile told name left
     → ForSome (remaining lines left) (λ text. TakesFront step (answered_shape answering text) before after)

@@ -22,7 +22,8 @@ of-form words f source result told before now old new last is h =
     (sym is) h
 
 -- `account` writes before its end
-pub account-early : (words : List (List ℕ)) (account : AccountForm) → form_of words ≡ Some (form.Account account) → IsTrue (command_if (form_of words)).writes_last → ⊥
+pub account-early : (words : List (List ℕ)) (account : AccountForm) → form_of words ≡ Some (form.Account account)
+    → IsTrue (command_if (form_of words)).writes_last → ⊥
 account-early words account is last =
     let writes_last : Option Form → Type 0 = λ o. IsTrue (command_if o).writes_last in
     let false_is : false ≡ true = subst writes_last is last in

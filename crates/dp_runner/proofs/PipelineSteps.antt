@@ -35,7 +35,8 @@ long-refused false text reason is h =
     ap or_refused (accepted-long text is) ∙ ap Err same
 
 found-refused : (found : Option (List ℕ)) (reason : Stop)
-    → (or_stop stop.ReadFault found >>= (λ text. if nat_le (length text) (2 ^ 20) then Ok text else Err (stop.Pipeline size_refused))) ≡ Err reason
+    → (or_stop stop.ReadFault found >>= (λ text. if nat_le (length text) (2 ^ 20) then Ok text else Err (stop.Pipeline size_refused)))
+    ≡ Err reason
     → (or_stop stop.ReadFault found >>= (λ text. or_refused (accepted text))) ≡ Err reason
 found-refused None reason h =
     let same : stop.ReadFault ≡ reason = cc in
@@ -54,7 +55,8 @@ same-text true text read h = cc
 same-text false text read h = absurd cc
 
 found-text : (found : Option (List ℕ)) (read : List ℕ)
-    → (or_stop stop.ReadFault found >>= (λ text. if nat_le (length text) (2 ^ 20) then Ok text else Err (stop.Pipeline size_refused))) ≡ Ok read
+    → (or_stop stop.ReadFault found >>= (λ text. if nat_le (length text) (2 ^ 20) then Ok text else Err (stop.Pipeline size_refused)))
+    ≡ Ok read
     → (or_stop stop.ReadFault found >>= (λ text. or_refused (accepted text))) ≡ or_refused (accepted read)
 found-text None read h = absurd cc
 found-text (Some text) read h = ap (λ t. or_refused (accepted t)) (same-text (nat_le (length text) (2 ^ 20)) text read h)

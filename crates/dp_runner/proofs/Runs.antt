@@ -16,11 +16,13 @@ use Rattle.dp_runner.proofs.WritesLast.{nothing-gained, lines-none}
 
 -- ---- a run that ends before it writes
 
-ended-unread : {A : Type 0} (source : Source) (next : A → Outcome) (right : Result A Stop) (reason : Stop) (held : Option (List ℕ)) → right ≡ Err reason
+ended-unread : {A : Type 0} (source : Source) (next : A → Outcome) (right : Result A Stop) (reason : Stop) (held : Option (List ℕ))
+    → right ≡ Err reason
     → HasDone (once_read source next right) (Some reason) held held source.state
 ended-unread source next right reason held e = rw e (record { gained = nothing-gained held; whole = refl; stop_is = refl; last_is = refl })
 
-pub runs-unread : {A : Type 0} (reason : Stop) (source : Source) (next : Files → A → Outcome) (told : Option Files) (right : Files → Result A Stop)
+pub runs-unread : {A : Type 0} (reason : Stop) (source : Source) (next : Files → A → Outcome) (told : Option Files)
+    (right : Files → Result A Stop)
     (before now : ℕ) (held : Option (List ℕ))
     → HasReason reason told right before now
     → Runs (Err reason) told (λ files. once_read source (next files) (right files)) before now held held source.state
@@ -30,7 +32,8 @@ runs-unread stop.ReadFault source next told right before now held (inr w) =
     inr (w.0, w.1, ended-unread source (next w.0) (right w.0) stop.ReadFault held w.2)
 runs-unread stop.WriteFault source next told right before now held h = absurd h
 runs-unread stop.NoMemory source next told right before now held h = λ files e. lines-none _ held
-runs-unread reason source next told right before now held h = λ files e. ended-unread source (next files) (right files) reason held (h files e)
+runs-unread reason source next told right before now held h = λ files e. ended-unread source (next files) (right files) reason held
+    (h files e)
 
 -- ---- a run that is said in another way, from an earlier count of faults on
 
@@ -83,7 +86,8 @@ runs-own (Err stop.ReadFault) source told right before now old new last (inr w) 
     inr (w.0, w.1, own-done source (right w.0) (Some stop.ReadFault) old new last w.2)
 runs-own (Err stop.WriteFault) source told right before now old new last h = h
 runs-own (Err stop.NoMemory) source told right before now old new last h = h
-runs-own (Err reason) source told right before now old new last h = λ files e. own-done source (right files) (Some reason) old new last (h files e)
+runs-own (Err reason) source told right before now old new last h = λ files e. own-done source (right files) (Some reason) old new last
+    (h files e)
 
 -- ---- bytes that were written before
 
@@ -106,7 +110,8 @@ preceded-front bytes more old held new written h = record {
   gained = h.gained ∙ ap (λ b. appended b h.front) written ∙ appended-append old bytes h.front;
 }
 
-preceded-lines : (bytes more : List ℕ) (old held new : Option (List ℕ)) → held ≡ appended old bytes → are_lines bytes ≡ true → AddsLines held new more
+preceded-lines : (bytes more : List ℕ) (old held new : Option (List ℕ)) → held ≡ appended old bytes → are_lines bytes ≡ true
+    → AddsLines held new more
     → AddsLines old new (bytes ++ more)
 preceded-lines bytes more old held new written whole h = record {
   gains = preceded-front bytes more old held new written h.gains;

@@ -26,7 +26,8 @@ pub opened-data : (form : SessionForm) (files : Files) (name data_name : List �
     → opened form files ≡ file_records files data_name pipeline
 unfolding opened
 opened-data form files name data_name pipeline same same_data read =
-    bind-ok (pipeline_at files form.pipeline_name) (λ p. file_records files form.data_name p) pipeline (ap (pipeline_at files) (sym same) ∙ read)
+    bind-ok (pipeline_at files form.pipeline_name) (λ p. file_records files form.data_name p) pipeline
+    (ap (pipeline_at files) (sym same) ∙ read)
     ∙ ap (λ (n : List ℕ). file_records files n pipeline) (sym same_data)
 
 -- the session has both
@@ -34,7 +35,8 @@ pub opened-both : (session : SessionValue) (pipeline : Content) (store : StoreVa
     → IsSessionAt session pipeline store.records past → stored pipeline store ≡ opened_by session
 opened-both session pipeline store past h =
     ap (λ (p : Content). stored p store) (sym h.pipeline_is)
-    ∙ ap (λ (rows : List (List (List ℕ))). let both : Opened = record { pipeline = session.queries.pipeline; rows = rows } in both) (sym h.records_are)
+    ∙ ap (λ (rows : List (List (List ℕ))). let both : Opened = record { pipeline = session.queries.pipeline; rows = rows } in both)
+    (sym h.records_are)
 
 -- the draws of the queries are those of the run
 pub run-taken : (step : List ℕ → ℕ → Turn) (before after : List ℕ) (form : SessionForm) (told : Option Files) (found : Opened)

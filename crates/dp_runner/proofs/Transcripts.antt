@@ -81,7 +81,8 @@ take-front n front rest is = take-append-le n front rest (omega arith) ∙ take_
 drop-front : (n : ℕ) (front rest : List ℕ) → length front ≡ n → drop n (front ++ rest) ≡ rest
 drop-front n front rest is = drop-append-le n front rest (omega arith) ∙ ap (λ (d : List ℕ). d ++ rest) (drop_all n front (omega arith))
 
-slot-bytes : (slot : Slot (List ℕ)) (slots : List (Slot (List ℕ))) (draws front rest : List ℕ) → draws ≡ front ++ rest → length front ≡ length slot.shape
+slot-bytes : (slot : Slot (List ℕ)) (slots : List (Slot (List ℕ))) (draws front rest : List ℕ) → draws ≡ front ++ rest
+    → length front ≡ length slot.shape
     → slot.out front ++ concat (replies slots rest) ≡ concat (replies (slot ∷ slots) draws)
 unfolding replies
 slot-bytes slot slots draws front rest split is =
@@ -150,11 +151,13 @@ all-done source pipeline root lines draws last e =
     ap (λ ran. ends ran false (end_line (length (reverse lines)) (root_spent pipeline (reverse lines))))
     (ran-all source.step (line_slots (session_slot pipeline root) [] lines) source.state draws last
     (ap (take_draws source.step source.state) (shapes-same pipeline root [] lines) ∙ e))
-    ∙ ap (λ n. ends (record { bytes = concat (replies (line_slots (session_slot pipeline root) [] lines) draws); enough = true; last = last }) false
+    ∙ ap (λ n. ends (record { bytes = concat (replies (line_slots (session_slot pipeline root) [] lines) draws); enough = true;
+    last = last }) false
     (end_line n (root_spent pipeline (reverse lines)))) (length-reverse lines)
 
 -- the draws run out
-pub answered-out : (source : Source) (pipeline : Content) (root : Value) (text line : List ℕ) (before after : List (List ℕ)) (draws mid last : List ℕ)
+pub answered-out : (source : Source) (pipeline : Content) (root : Value) (text line : List ℕ) (before after : List (List ℕ))
+    (draws mid last : List ℕ)
     → lines_within (2 ^ 20) text ≡ before ++ line ∷ after
     → take_draws source.step source.state (run_shape pipeline root before) ≡ record { draws = Some draws; last = mid }
     → take_draws source.step mid (query_shape (verdict pipeline (reverse before) line)) ≡ record { draws = None; last = last }
@@ -173,7 +176,8 @@ answered-out source pipeline root text line before after draws mid last is given
 -- a line is over
 pub answered-over : (source : Source) (pipeline : Content) (root : Value) (text draws last : List ℕ)
     → has_line_over (2 ^ 20) text ≡ true
-    → take_draws source.step source.state (run_shape pipeline root (lines_within (2 ^ 20) text)) ≡ record { draws = Some draws; last = last }
+    → take_draws source.step source.state (run_shape pipeline root (lines_within (2 ^ 20) text))
+    ≡ record { draws = Some draws; last = last }
     → answered source (session_answering pipeline root) text
     ≡ record { bytes = session_lines pipeline root (lines_within (2 ^ 20) text) draws; stop = Some stop.QueryLimit; last = last }
 unfolding answered
@@ -195,7 +199,8 @@ answered-all source pipeline root text draws last none e =
 
 -- ---- the three commands
 
-opened-complete : (form : SessionForm) (files : Files) (content : Content) (text queries : List ℕ) → HasFiles form files content text queries
+opened-complete : (form : SessionForm) (files : Files) (content : Content) (text queries : List ℕ)
+    → HasFiles form files content text queries
     → opened form files ≡ Ok (record { pipeline = content; rows = text_records content text })
 opened-complete form files content text queries h =
     opened-data form files form.pipeline_name form.data_name content refl refl
@@ -207,13 +212,15 @@ queried-complete : (form : SessionForm) (files : Files) (source : Source) (conte
     → queried form files source (record { pipeline = content; rows = text_records content text })
     ≡ record { bytes = transcript content (data_root content text) (lines_of queries) draws; stop = None; last = last }
 queried-complete form files source content text queries draws last h gives =
-    ap (λ found. once_read source (answered source (session_answering content (data_root content text))) (or_stop stop.ReadFault found)) h.queries_file
+    ap (λ found. once_read source (answered source (session_answering content (data_root content text)))
+    (or_stop stop.ReadFault found)) h.queries_file
     ∙ answered-all source content (data_root content text) queries draws last h.none_over gives
 
 done-is : (one : Outcome) (bytes last : List ℕ) → one ≡ record { bytes = bytes; stop = None; last = last } → IsDone one bytes last
 done-is one bytes last e = rw e (record { bytes_are = refl; stop_is = refl; last_is = refl })
 
-pub run-done : (words : List (List ℕ)) (files : Files) (source : Source) (run : SessionForm) (content : Content) (text queries draws last : List ℕ)
+pub run-done : (words : List (List ℕ)) (files : Files) (source : Source) (run : SessionForm) (content : Content)
+    (text queries draws last : List ℕ)
     → form_of words ≡ Some (form.Run run) → HasFiles run files content text queries → GivesAll source content text queries draws last
     → IsDone (outcome words files source) (transcript content (data_root content text) (lines_of queries) draws) last
 unfolding run_outcome
@@ -234,21 +241,26 @@ replay-done words files source replay content text queries numbers draws last is
     let by : List ℕ → Outcome = λ ns. by_own_draws source (queried replay.session files (source_at replay_step ns) found) in
     form-done words (form.Replay replay) files source _ source.state is
     (done-is _ _ source.state
-    (ap (once_read source (λ o. once_read source (λ ns. by_own_draws source (queried replay.session files (source_at replay_step ns) o)) (drawn files replay.draws_name)))
+    (ap (once_read source (λ o. once_read source (λ ns. by_own_draws source
+    (queried replay.session files (source_at replay_step ns) o)) (drawn files replay.draws_name)))
     (opened-complete replay.session files content text queries h)
-    ∙ ap (once_read source by) (bind-ok (file_text files replay.draws_name (2 ^ 26)) _ numbers (file-read files replay.draws_name numbers (2 ^ 26) has_draws short))
-    ∙ ap (by_own_draws source) (queried-complete replay.session files (source_at replay_step (drawn_numbers numbers)) content text queries draws last h gives)))
+    ∙ ap (once_read source by) (bind-ok (file_text files replay.draws_name (2 ^ 26)) _ numbers
+    (file-read files replay.draws_name numbers (2 ^ 26) has_draws short))
+    ∙ ap (by_own_draws source) (queried-complete replay.session files
+    (source_at replay_step (drawn_numbers numbers)) content text queries draws last h gives)))
 
 pub rehearse-done : (words : List (List ℕ)) (files : Files) (source : Source) (rehearse : RehearseForm) (content : Content)
     (text queries draws last : List ℕ)
     → form_of words ≡ Some (form.Rehearse rehearse) → HasFiles rehearse.session files content text queries
     → GivesAll (seeded rehearse.seed) content text queries draws last
-    → IsDone (outcome words files source) (codes "rehearsal\n" ++ transcript content (data_root content text) (lines_of queries) draws) source.state
+    → IsDone (outcome words files source) (codes "rehearsal\n" ++ transcript content (data_root content text) (lines_of queries) draws)
+    source.state
 unfolding rehearse_outcome
 rehearse-done words files source rehearse content text queries draws last is h gives =
     form-done words (form.Rehearse rehearse) files source _ source.state is
     (done-is _ _ source.state
-    (ap (once_read source (λ o. by_own_draws source (preceded_by (codes "rehearsal\n") (queried rehearse.session files (seeded rehearse.seed) o))))
+    (ap (once_read source (λ o. by_own_draws source
+    (preceded_by (codes "rehearsal\n") (queried rehearse.session files (seeded rehearse.seed) o))))
     (opened-complete rehearse.session files content text queries h)
     ∙ ap (λ o. by_own_draws source (preceded_by (codes "rehearsal\n") o))
     (queried-complete rehearse.session files (seeded rehearse.seed) content text queries draws last h gives)))

@@ -86,7 +86,8 @@ not_one-word bytes (w ∷ []) n = absurd (n refl)
 not_one-word bytes [] n = refl
 not_one-word bytes (w ∷ more ∷ rest) n = refl
 
-pub two-words : {W : Type 0} (bytes : W → List ℕ) (words : List W) (a b : W) → length words ≡ 2 → a ≡ get_or words 0 a → b ≡ get_or words 1 b
+pub two-words : {W : Type 0} (bytes : W → List ℕ) (words : List W) (a b : W) → length words ≡ 2 → a ≡ get_or words 0 a
+    → b ≡ get_or words 1 b
     → account_form (map bytes words) ≡ account_form_of (bytes a) (bytes b)
 unfolding account_form
 two-words bytes (v ∷ w ∷ []) a b n ia ib = rw (ia, ib) refl

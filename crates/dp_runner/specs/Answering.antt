@@ -12,8 +12,8 @@ use Rattle.dp_session.specs.Verdicts.{root_spent}
 use Rattle.dp_runner.specs.declared.stop.Stop.TheVariants as stop
 use Rattle.dp_runner.specs.Outcome.{Source, Outcome, or_stop, once_read}
 
--- how query lines are answered, by those before, newest first: of each line the bounds of its draws and what is written
--- by them, and what is written last
+-- how query lines are answered, by those before, newest first: of each line the bounds of its draws and what is
+-- written by them, and what is written last
 pub record Answering : Type 0 where
   pub slot : List (List ℕ) → List ℕ → Slot (List ℕ)
   pub last_line : List (List ℕ) → List ℕ
@@ -30,16 +30,16 @@ account_answering pipeline = record { slot = account_slot pipeline; last_line = 
 abbrev pub session_answering : Content → Value → Answering
 session_answering pipeline root = record { slot = session_slot pipeline root; last_line = end_after pipeline }
 
--- how a run ends whose lines came to this on its draw source: at a draw that was not given; else at a line that is over;
--- else with the last line
+-- how a run ends whose lines came to this on its draw source: at a draw that was not given; else at a line that
+-- is over; else with the last line
 abbrev pub ends : Ran → Bool → List ℕ → Outcome
 ends ran over last_line =
     if not ran.enough then record { bytes = ran.bytes; stop = Some stop.DrawFault; last = ran.last }
     else if over then record { bytes = ran.bytes; stop = Some stop.QueryLimit; last = ran.last }
     else record { bytes = ran.bytes ++ last_line; stop = None; last = ran.last }
 
--- a text of queries on a draw source: all lines before the first that is over, each written by the draws that the source
--- gives for it, up to a draw that is not given
+-- a text of queries on a draw source: all lines before the first that is over, each written by the draws that
+-- the source gives for it, up to a draw that is not given
 unfoldable pub answered : Source → Answering → List ℕ → Outcome
 answered source answering text =
     let lines = lines_within (2 ^ 20) text in

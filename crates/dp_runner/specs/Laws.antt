@@ -62,8 +62,8 @@ AccountLaw = (words : List (List ℕ)) (files : Files) (source : Source) (accoun
     IsDone (outcome words files source)
     (account_lines content [] lines ++ end_line (length lines) (units content lines)) source.state
 
--- what the three files of a session have: an accepted pipeline, a data text of at most 2 ^ 30 bytes, and queries of which
--- no line is over
+-- what the three files of a session have: an accepted pipeline, a data text of at most 2 ^ 30 bytes, and
+-- queries of which no line is over
 pub record HasFiles (session : SessionForm) (files : Files) (content : Content) (data_text queries : List ℕ)
     : Type 0 where
   pub text : List ℕ
@@ -84,8 +84,8 @@ GivesAll source content data_text queries draws last =
     take_draws source.step source.state (run_shape content (data_root content data_text) (lines_of queries))
     ≡ record { draws = Some draws; last = last }
 
--- `run` writes the transcript of its queries by the draws that are handed in, ends with 0 and leaves their source in the
--- state after them
+-- `run` writes the transcript of its queries by the draws that are handed in, ends with 0 and leaves their
+-- source in the state after them
 abbrev pub RunLaw : Type 0
 RunLaw = (words : List (List ℕ)) (files : Files) (source : Source) (run : SessionForm) (content : Content)
     → (data_text queries draws last : List ℕ)
@@ -94,8 +94,8 @@ RunLaw = (words : List (List ℕ)) (files : Files) (source : Source) (run : Sess
     → IsDone (outcome words files source)
     (transcript content (data_root content data_text) (lines_of queries) draws) last
 
--- `replay` writes it by the numbers of its file of draws, ends with 0 and leaves the draw source that is handed in as it
--- was
+-- `replay` writes it by the numbers of its file of draws, ends with 0 and leaves the draw source that is handed
+-- in as it was
 abbrev pub ReplayLaw : Type 0
 ReplayLaw = (words : List (List ℕ)) (files : Files) (source : Source) (replay : ReplayForm) (content : Content)
     → (data_text queries numbers draws last : List ℕ)
@@ -105,8 +105,8 @@ ReplayLaw = (words : List (List ℕ)) (files : Files) (source : Source) (replay 
     → IsDone (outcome words files source)
     (transcript content (data_root content data_text) (lines_of queries) draws) source.state
 
--- `rehearse` writes it after a line that says so, by the draws of its seed, ends with 0 and leaves the draw source that
--- is handed in as it was
+-- `rehearse` writes it after a line that says so, by the draws of its seed, ends with 0 and leaves the draw
+-- source that is handed in as it was
 abbrev pub RehearseLaw : Type 0
 RehearseLaw = (words : List (List ℕ)) (files : Files) (source : Source) (rehearse : RehearseForm) (content : Content)
     → (data_text queries draws last : List ℕ)

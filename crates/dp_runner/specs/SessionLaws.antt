@@ -17,8 +17,8 @@ use Rattle.dp_runner.specs.Outcome.{Source}
 abbrev pub session_lines : Content → Value → List (List ℕ) → List ℕ → List ℕ
 session_lines pipeline root lines draws = concat (replies (line_slots (session_slot pipeline root) [] lines) draws)
 
--- the source gives the draws of some first queries, and not those of the next: the lines of the first are written, the run
--- stops there, and the source is in the state in which it failed
+-- the source gives the draws of some first queries, and not those of the next: the lines of the first are
+-- written, the run stops there, and the source is in the state in which it failed
 abbrev pub RunsOutLaw : Type 0
 RunsOutLaw = (source : Source) (pipeline : Content) (root : Value) (text line : List ℕ)
     → (before after : List (List ℕ)) (draws mid last : List ℕ)
@@ -29,8 +29,8 @@ RunsOutLaw = (source : Source) (pipeline : Content) (root : Value) (text line : 
     → answered source (session_answering pipeline root) text
     ≡ record { bytes = session_lines pipeline root before draws; stop = Some stop.DrawFault; last = last }
 
--- the source gives the draws of all queries before the first line that is over: their lines are written, and the run
--- stops there
+-- the source gives the draws of all queries before the first line that is over: their lines are written, and
+-- the run stops there
 abbrev pub LimitLaw : Type 0
 LimitLaw = (source : Source) (pipeline : Content) (root : Value) (text draws last : List ℕ)
     → has_line_over (2 ^ 20) text ≡ true

@@ -14,10 +14,11 @@ use Rattle.dp_runner.specs.Causes.{HasDone}
 use Rattle.dp_runner.specs.Outcome.{Outcome}
 use Rattle.dp_runner.specs.WrittenLines.{are_lines, AddsLines}
 
--- what a run that answers query lines does, where its outcome is told: all of it; or it ends with a read fault where the
--- shelf's count of faults rose, or with want of memory, both after some of the lines, or with a write fault after a front
--- of the bytes
-abbrev pub RunsTo : Result (Unit {0}) Stop → Option Outcome → ℕ → ℕ → Option (List ℕ) → Option (List ℕ) → List ℕ → Type 0
+-- what a run that answers query lines does, where its outcome is told: all of it; or it ends with a read fault
+-- where the shelf's count of faults rose, or with want of memory, both after some of the lines, or with a write
+-- fault after a front of the bytes
+abbrev pub RunsTo : Result (Unit {0}) Stop → Option Outcome → ℕ → ℕ → Option (List ℕ) → Option (List ℕ) → List ℕ
+    → Type 0
 RunsTo (Ok done) told before now old new last = ForSome told (λ outcome. HasDone outcome None old new last)
 RunsTo (Err stop.ReadFault) told before now old new last =
     Rose before now × ForSome told (λ outcome. AddsLines old new outcome.bytes)
@@ -31,10 +32,10 @@ pub record WritesLines (answering : Answering) : Type 0 where
   pub each : (past : List (List ℕ)) (line draws : List ℕ) → are_lines ((answering.slot past line).out draws) ≡ true
   pub last : (past : List (List ℕ)) → are_lines (answering.last_line past) ≡ true
 
--- what an answer to a line leaves of its draw source and its output, where the slot has the bounds of the line's draws
--- and what is written by them. After Ok the draws were taken and the output gained the line; after a draw fault they could
--- not be taken, and nothing was written; after a write fault they were, and a front of the line was written; without
--- memory some first part of them was taken, and nothing was written
+-- what an answer to a line leaves of its draw source and its output, where the slot has the bounds of the
+-- line's draws and what is written by them. After Ok the draws were taken and the output gained the line; after
+-- a draw fault they could not be taken, and nothing was written; after a write fault they were, and a front of
+-- the line was written; without memory some first part of them was taken, and nothing was written
 abbrev pub AnswersSlot : Result (Unit {0}) Stop → Drawing → Slot (List ℕ) → Option (List ℕ) → Option (List ℕ) → Type 0
 AnswersSlot (Ok done) source slot old new =
     (draws : List ℕ) × Gives source slot.shape (Some draws) × (new ≡ appended old (slot.out draws))

@@ -13,7 +13,8 @@ lines-after (first ∷ []) byte rest h = h
 lines-after (first ∷ next ∷ front) byte rest h = lines-after (next ∷ front) byte rest h
 
 -- lines after lines
-pub lines-append : (front rest : List ℕ) → are_lines front ≡ true → are_lines rest ≡ true → are_lines (front ++ rest) ≡ true
+pub lines-append : (front rest : List ℕ) → are_lines front ≡ true → are_lines rest ≡ true
+    → are_lines (front ++ rest) ≡ true
 lines-append front [] before h = ap are_lines (append-nil front) ∙ before
 lines-append front (byte ∷ rest) before h = lines-after front byte rest h
 
@@ -31,5 +32,6 @@ ended-lines bytes h = ap are_lines h.1 ∙ lines-after h.0 10 [] refl
 pub last-line : (lines : List (List ℕ)) (byte : ℕ) (rest : List ℕ) → are_lines (byte ∷ rest) ≡ true
     → are_lines (concat (lines ++ (byte ∷ rest) ∷ [])) ≡ true
 last-line lines byte rest h =
-    ap are_lines (concat-append lines ((byte ∷ rest) ∷ []) ∙ ap (λ line. concat lines ++ line) (append-nil (byte ∷ rest)))
+    ap are_lines (concat-append lines ((byte ∷ rest) ∷ [])
+    ∙ ap (λ line. concat lines ++ line) (append-nil (byte ∷ rest)))
     ∙ lines-after (concat lines) byte rest h

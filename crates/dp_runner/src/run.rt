@@ -46,10 +46,12 @@ use std::alloc::Global;
 /// | 3 | `dp: pipeline refused c` | exactly where the text of P is refused with the number c, and no earlier fault came |
 /// | 4 | `dp: read fault` | only where the shelf's count of faults rose, or where it tells its files and lacks one |
 /// | 5 | `dp: write fault` | only where the count of faults of `out` rose |
-/// | 6 | `dp: draw fault` | exactly where the command's draw source fails in taking the draws, and no other fault came; where that is the source that is handed in, its count of faults rose besides |
+/// | 6 | `dp: draw fault` | exactly where the command's draw source fails in taking the draws, and no other fault came |
 /// | 7 | `dp: too long` | exactly where DATA passes 2^30 bytes or DRAWS 2^26, and no earlier fault came |
 /// | 8 | `dp: query limit` | exactly where a line of QUERIES passes 65,536 bytes or they pass 2^20, and no fault came |
 /// | 9 | `dp: no memory` | memory ran out |
+///
+/// Where the source that is handed in failed so, its count of faults rose; after any other end it is what it was.
 ///
 /// The first fault ends the run. A failure of `err` does not change the status. A run that ends with 0 opened each file
 /// that its words name once, and raised no count of faults of the shelf or of `out`; no run opens more files.
@@ -118,8 +120,8 @@ pub fn run_words<S: Shelf, D: Draws, K: Sink, E: Sink>(
     ensures source_kept { result ≢ 6 → D.faults draws.new ≡ D.faults draws.old }
 
     // Unless it failed, it stands where taking some first part of the run's draws leaves it.
-    ensures taken { result ≢ 6 → ForSome (S.files shelf.old) (λ files.
-        TakesFront D.step ((command (map string_bytes words.now)).shape files) (D.state draws.old) (D.state draws.new)) }
+    ensures taken { result ≢ 6 → ForSome (S.files shelf.old) (λ files. TakesFront D.step
+        ((command (map string_bytes words.now)).shape files) (D.state draws.old) (D.state draws.new)) }
 
     // Every accepted pipeline is private, on all data texts within its distance, for all lists of queries and replies.
     ensures private { PrivacyLaw }
@@ -177,8 +179,8 @@ fn run<S: Shelf, D: Draws, K: Sink>(
     ensures source_rose { result ≡ Err Stop.DrawFault → (command (map string_bytes words.now)).keeps_source ≡ false
         → Rose (D.faults draws.old) (D.faults draws.new) }
     ensures source_kept { result ≢ Err Stop.DrawFault → D.faults draws.new ≡ D.faults draws.old }
-    ensures taken { result ≢ Err Stop.DrawFault → ForSome (S.files shelf.old) (λ files.
-        TakesFront D.step ((command (map string_bytes words.now)).shape files) (D.state draws.old) (D.state draws.new)) }
+    ensures taken { result ≢ Err Stop.DrawFault → ForSome (S.files shelf.old) (λ files. TakesFront D.step
+        ((command (map string_bytes words.now)).shape files) (D.state draws.old) (D.state draws.new)) }
     ensures later { S.faults shelf.old ≤ S.faults shelf.new }
     ensures kept { Kept result (S.faults shelf.old) (S.faults shelf.new) }
     ensures write_fault { result ≡ Err Stop.WriteFault → Rose (K.faults out.old) (K.faults out.new) }

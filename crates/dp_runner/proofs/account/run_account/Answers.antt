@@ -17,7 +17,8 @@ unfolding account_outcome
 returns-in_err-pipeline-clause-runs g c = λ source.
     let p = err_from_is_err_and c.from_residual.result c.from_residual.ensures.1 in
     rw (p.1, p.2) (runs-unread c.in_err-pipeline.field-0.0 source
-    (λ (files : Files) (pipeline : Content). once_read source (accounted source pipeline) (or_stop stop.ReadFault (files c.args.form.now.queries_name)))
+    (λ (files : Files) (pipeline : Content). once_read source (accounted source pipeline)
+    (or_stop stop.ReadFault (files c.args.form.now.queries_name)))
     (g.S.Shelf.files c.args.shelf.now) (λ files. pipeline_at files c.args.form.now.pipeline_name) _ _ _
     (rw c.pipeline_name.ensures at c.in_err-pipeline.ensures.answers))
 
@@ -30,7 +31,8 @@ pub returns-clause-runs : goal.returns-clause-runs
 unfolding account_outcome
 returns-clause-runs g c = λ source.
     runs-after c.answer_file.result source
-    (λ (files : Files) (pipeline : Content). once_read source (accounted source pipeline) (or_stop stop.ReadFault (files c.args.form.now.queries_name)))
+    (λ (files : Files) (pipeline : Content). once_read source (accounted source pipeline)
+    (or_stop stop.ReadFault (files c.args.form.now.queries_name)))
     (g.S.Shelf.files c.args.shelf.now) (λ files. pipeline_at files c.args.form.now.pipeline_name) c.in_ok-pipeline.pipeline
     (g.S.Shelf.faults c.args.shelf.now) (g.S.Shelf.faults c.pipeline_of.new.shelf) (g.S.Shelf.faults c.answer_file.new.shelf) _ _ _
     (omega arith)

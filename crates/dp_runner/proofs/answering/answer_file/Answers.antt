@@ -15,14 +15,16 @@ pub returns-in_err-slot-clause-runs : goal.returns-in_err-slot-clause-runs
 returns-in_err-slot-clause-runs g c =
     let p = err_from_is_err_and c.from_residual.result c.from_residual.ensures.1 in
     let source = source_at g.D.Draws.step (g.D.Draws.state c.args.draws.now) in
-    rw (p.1, p.2) (runs-unread (stop_of_open c.in_err-slot.field-0.0) source (λ (files : Files). answered source (g.A.Answerer.answering c.args.answerer.now))
+    rw (p.1, p.2) (runs-unread (stop_of_open c.in_err-slot.field-0.0) source
+    (λ (files : Files). answered source (g.A.Answerer.answering c.args.answerer.now))
     (g.S.Shelf.files c.args.shelf.now) (λ files. or_stop stop.ReadFault (files c.args.name.now)) _ _ _
     (open-reason c.in_err-slot.field-0.0 (g.S.Shelf.files c.args.shelf.now) c.args.name.now _ _
     (λ failed. c.in_err-slot.ensures.cause (ap Err failed))))
 
 pub returns-in_err-slot-clause-taken : goal.returns-in_err-slot-clause-taken
 returns-in_err-slot-clause-taken g c = λ other files is.
-    none-taken g.D.Draws.step (file_shape (g.A.Answerer.answering c.args.answerer.now) files c.args.name.now) (g.D.Draws.state c.args.draws.now)
+    none-taken g.D.Draws.step (file_shape (g.A.Answerer.answering c.args.answerer.now) files c.args.name.now)
+    (g.D.Draws.state c.args.draws.now)
 
 pub returns-in_err-lines-clause-runs : goal.returns-in_err-lines-clause-runs
 returns-in_err-lines-clause-runs g c =
@@ -31,7 +33,8 @@ returns-in_err-lines-clause-runs g c =
 
 pub returns-in_err-lines-clause-taken : goal.returns-in_err-lines-clause-taken
 returns-in_err-lines-clause-taken g c = λ other files is.
-    none-taken g.D.Draws.step (file_shape (g.A.Answerer.answering c.args.answerer.now) files c.args.name.now) (g.D.Draws.state c.args.draws.now)
+    none-taken g.D.Draws.step (file_shape (g.A.Answerer.answering c.args.answerer.now) files c.args.name.now)
+    (g.D.Draws.state c.args.draws.now)
 
 pub returns-clause-runs : goal.returns-clause-runs
 returns-clause-runs g c =

@@ -21,8 +21,10 @@ pub returns-in_err-answer_next-clause-runs : goal.returns-in_err-answer_next-cla
 returns-in_err-answer_next-clause-runs g c =
     let p = err_from_is_err_and c.from_residual.result c.from_residual.ensures.1 in
     let s = c.loop-turn.invariant.standing in
-    let turned = rw (c.loop-turn.invariant.slot, c.loop-turn.invariant.answering) at (c.in_err-answer_next.ensures.turns s.past s.stands_at) in
-    rw (p.1, p.2) (turn-ends c.in_err-answer_next.field-0.0 (g.A.Answerer.stands c.loop-turn.answerer) (g.A.Answerer.stands c.answer_next.new.answerer)
+    let turned = rw (c.loop-turn.invariant.slot, c.loop-turn.invariant.answering) at
+    (c.in_err-answer_next.ensures.turns s.past s.stands_at) in
+    rw (p.1, p.2) (turn-ends c.in_err-answer_next.field-0.0 (g.A.Answerer.stands c.loop-turn.answerer)
+    (g.A.Answerer.stands c.answer_next.new.answerer)
     _ _ _ _ _ _ _ _ _ c.loop-turn._turn (2 ^ 20 - c.loop-turn._turn) (2 ^ 20 - (c.loop-turn._turn + 1)) _ _ (omega arith) s turned
     (λ e. rw c.loop-turn.invariant.faults at (c.in_err-answer_next.ensures.rose (ap Err e))))
 
@@ -30,7 +32,8 @@ pub returns-in_err-answer_next-clause-taken : goal.returns-in_err-answer_next-cl
 returns-in_err-answer_next-clause-taken g c = λ other.
     let p = err_from_is_err_and c.from_residual.result c.from_residual.ensures.1 in
     let s = c.loop-turn.invariant.standing in
-    let turned = rw (c.loop-turn.invariant.slot, c.loop-turn.invariant.answering) at (c.in_err-answer_next.ensures.turns s.past s.stands_at) in
+    let turned = rw (c.loop-turn.invariant.slot, c.loop-turn.invariant.answering) at
+    (c.in_err-answer_next.ensures.turns s.past s.stands_at) in
     turn-taken c.in_err-answer_next.field-0.0 (g.A.Answerer.stands c.loop-turn.answerer) (g.A.Answerer.stands c.answer_next.new.answerer)
     _ _ _ _ _ _ _ _ _ c.loop-turn._turn (2 ^ 20 - c.loop-turn._turn) (2 ^ 20 - (c.loop-turn._turn + 1)) (omega arith) s turned
     (λ e. other (p.1 ∙ ap Err (p.2 ∙ e)))
@@ -40,7 +43,8 @@ returns-then-not-branch-clause-runs g c =
     let s = c.loop-turn.invariant.standing in
     let turned = turn-none c.in_ok-answer_next.field-0 _ _ _ _ _ _ _ _ c.if-not-branch.true
     (rw (c.loop-turn.invariant.slot, c.loop-turn.invariant.answering) at (c.in_ok-answer_next.ensures.turns s.past s.stands_at)) in
-    rw turned.1.0 (end-ends c.write_last.result (g.A.Answerer.stands c.loop-turn.answerer) _ _ _ _ _ _ _ _ c.loop-turn._turn (2 ^ 20 - c.loop-turn._turn) _ _
+    rw turned.1.0 (end-ends c.write_last.result (g.A.Answerer.stands c.loop-turn.answerer) _ _ _ _ _ _ _ _ c.loop-turn._turn
+    (2 ^ 20 - c.loop-turn._turn) _ _
     (g.met.A.Answerer.whole_lines c.args.answerer.now) s turned.0 turned.1.1
     (rw (c.in_ok-answer_next.ensures.same, c.loop-turn.invariant.answering) at (c.write_last.ensures.ends s.past turned.2)))
 
@@ -72,7 +76,8 @@ pub returns-in_err-next-clause-runs : goal.returns-in_err-next-clause-runs
 returns-in_err-next-clause-runs g c =
     let p = err_from_is_err_and c.from_residual-in_err-next.result c.from_residual-in_err-next.ensures.1 in
     let s = c.loop-turn.invariant.standing in
-    rw (p.1, p.2) (next-ends c.in_err-next.field-0.0 (g.A.Answerer.stands c.loop-turn.answerer) _ _ _ _ _ _ c.loop-turn._turn (2 ^ 20 - c.loop-turn._turn) _ _ s
+    rw (p.1, p.2) (next-ends c.in_err-next.field-0.0 (g.A.Answerer.stands c.loop-turn.answerer) _ _ _ _ _ _ c.loop-turn._turn
+    (2 ^ 20 - c.loop-turn._turn) _ _ s
     (λ e. rw c.loop-turn.invariant.slot at (c.in_err-next.ensures.too_long (ap Err e)))
     (λ e. rw c.loop-turn.invariant.faults at (c.in_err-next.ensures.cause (ap Err e))))
 
@@ -97,7 +102,8 @@ pub returns-clause-runs : goal.returns-clause-runs
 returns-clause-runs g c =
     let s = c.loop-turn.invariant.standing in
     let more = rw c.loop-turn.invariant.slot at c.in_ok-next.ensures.more in
-    end-ends c.write_last-2.result (g.A.Answerer.stands c.loop-turn.answerer) _ _ _ _ _ _ _ _ c.loop-turn._turn (2 ^ 20 - c.loop-turn._turn) _ _
+    end-ends c.write_last-2.result (g.A.Answerer.stands c.loop-turn.answerer) _ _ _ _ _ _ _ _ c.loop-turn._turn
+    (2 ^ 20 - c.loop-turn._turn) _ _
     (g.met.A.Answerer.whole_lines c.args.answerer.now) s
     (λ text is. more-none c.in_ok-next.field-0 text (more text is) c.if-branch.false) refl
     (rw c.loop-turn.invariant.answering at (c.write_last-2.ensures.ends s.past s.stands_at))

@@ -20,15 +20,18 @@ returns-in_err-session c =
     let none : None ≡ session_form_of (string_bytes c.pipeline_name-item.result) (string_bytes c.data_name-item.result)
     (string_bytes c.queries_name-item.result) =
     rw (c.as_str.ensures.value, c.as_str-2.ensures.value, c.as_str-3.ensures.value) at c.in_err-session.ensures in
-    (search rules) ∙ sym (replay-words string_bytes c.args.words.now _ _ _ _ four c.pipeline_name-item.is c.data_name-item.is c.queries_name-item.is c.draws_name-item.is
+    (search rules) ∙ sym (replay-words string_bytes c.args.words.now _ _ _ _ four c.pipeline_name-item.is c.data_name-item.is
+    c.queries_name-item.is c.draws_name-item.is
     ∙ ap (option_and_then (λ (session : SessionForm). replay_form_of session (string_bytes c.draws_name-item.result))) (sym none))
 
 pub returns : goal.returns
 returns c =
     let four : length c.args.words.now ≡ 4 = omega arith in
-    let some : Some c.in_ok-session.session ≡ session_form_of (string_bytes c.pipeline_name-item.result) (string_bytes c.data_name-item.result)
+    let some : Some c.in_ok-session.session ≡ session_form_of (string_bytes c.pipeline_name-item.result)
+    (string_bytes c.data_name-item.result)
     (string_bytes c.queries_name-item.result) =
     rw (c.as_str.ensures.value, c.as_str-2.ensures.value, c.as_str-3.ensures.value) at c.in_ok-session.ensures in
     (rw c.as_str-4.ensures.value at c.replay_form_of.ensures)
-    ∙ sym (replay-words string_bytes c.args.words.now _ _ _ _ four c.pipeline_name-item.is c.data_name-item.is c.queries_name-item.is c.draws_name-item.is
+    ∙ sym (replay-words string_bytes c.args.words.now _ _ _ _ four c.pipeline_name-item.is c.data_name-item.is c.queries_name-item.is
+    c.draws_name-item.is
     ∙ ap (option_and_then (λ (session : SessionForm). replay_form_of session (string_bytes c.draws_name-item.result))) (sym some))

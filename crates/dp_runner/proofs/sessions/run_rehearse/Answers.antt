@@ -14,7 +14,8 @@ returns-in_err-session-clause-runs g c = λ source.
     let p = err_from_is_err_and c.from_residual.result c.from_residual.ensures.1 in
     let form = c.args.form.now in
     rw (p.1, p.2) (runs-unread c.in_err-session.field-0.0 source
-    (λ (files : Files) (found : Opened). by_own_draws source (preceded_by (codes "rehearsal\n") (queried form.session files (seeded form.seed) found)))
+    (λ (files : Files) (found : Opened). by_own_draws source
+    (preceded_by (codes "rehearsal\n") (queried form.session files (seeded form.seed) found)))
     (g.S.Shelf.files c.args.shelf.now) (opened form.session) _ _ _ (rw c.session-words.ensures at c.in_err-session.ensures.answers))
 
 pub returns-in_err-write_line-clause-runs : goal.returns-in_err-write_line-clause-runs
@@ -23,12 +24,14 @@ returns-in_err-write_line-clause-runs g c = λ source.
     let p = err_from_is_err_and c.from_residual-in_err-write_line.result c.from_residual-in_err-write_line.ensures.1 in
     let form = c.args.form.now in
     rw (p.1, p.2, c.in_err-write_line.ensures.only) (runs-after (Err stop.WriteFault) source
-    (λ (files : Files) (found : Opened). by_own_draws source (preceded_by (codes "rehearsal\n") (queried form.session files (seeded form.seed) found)))
+    (λ (files : Files) (found : Opened). by_own_draws source
+    (preceded_by (codes "rehearsal\n") (queried form.session files (seeded form.seed) found)))
     (g.S.Shelf.files c.args.shelf.now) (opened form.session) (opened_by c.in_ok-session.session)
     (g.S.Shelf.faults c.args.shelf.now) (g.S.Shelf.faults c.session_of.new.shelf) (g.S.Shelf.faults c.session_of.new.shelf)
     (g.K.Sink.held c.args.out.now) (g.K.Sink.held c.write_line.new.out) source.state
     (omega arith) (rw c.session-words.ensures at c.in_ok-session.ensures.answers)
-    (λ files is. front-before (codes "rehearsal\n") (queried form.session files (seeded form.seed) (opened_by c.in_ok-session.session)).bytes _ _
+    (λ files is. front-before (codes "rehearsal\n")
+    (queried form.session files (seeded form.seed) (opened_by c.in_ok-session.session)).bytes _ _
     c.in_err-write_line.ensures.front))
 
 pub returns-clause-runs : goal.returns-clause-runs
@@ -36,14 +39,17 @@ unfolding rehearse_outcome
 returns-clause-runs g c = λ source.
     let form = c.args.form.now in
     runs-after c.answer_file.result source
-    (λ (files : Files) (found : Opened). by_own_draws source (preceded_by (codes "rehearsal\n") (queried form.session files (seeded form.seed) found)))
+    (λ (files : Files) (found : Opened). by_own_draws source
+    (preceded_by (codes "rehearsal\n") (queried form.session files (seeded form.seed) found)))
     (g.S.Shelf.files c.args.shelf.now) (opened form.session) (opened_by c.in_ok-session.session)
     (g.S.Shelf.faults c.args.shelf.now) (g.S.Shelf.faults c.session_of.new.shelf) (g.S.Shelf.faults c.answer_file.new.shelf) _ _ _
     (omega arith) (rw c.session-words.ensures at c.in_ok-session.ensures.answers)
     (runs-own c.answer_file.result source (g.S.Shelf.files c.args.shelf.now)
-    (λ files. preceded_by (codes "rehearsal\n") (queried form.session files (seeded form.seed) (opened_by c.in_ok-session.session))) _ _ _ _ _
+    (λ files. preceded_by (codes "rehearsal\n") (queried form.session files (seeded form.seed) (opened_by c.in_ok-session.session))) _
+    _ _ _ _
     (runs-preceded c.answer_file.result (codes "rehearsal\n") (g.S.Shelf.files c.args.shelf.now)
     (λ files. queried form.session files (seeded form.seed) (opened_by c.in_ok-session.session)) _ _ _ _ _ _
     c.in_ok-write_line.ensures.written refl
-    (rw (c.in_ok-session.ensures.same_files, c.queries_name.ensures, c.session-words.ensures, c.new-draws.ensures.state, c.seed_bytes.ensures, c.seed.ensures)
+    (rw (c.in_ok-session.ensures.same_files, c.queries_name.ensures, c.session-words.ensures, c.new-draws.ensures.state,
+    c.seed_bytes.ensures, c.seed.ensures)
     at c.answer_file.ensures.runs)))

@@ -32,7 +32,8 @@ returns-in_err-replay-clause-runs g c = λ source.
     (g.K.Sink.held c.args.out.now) (g.K.Sink.held c.args.out.now) source.state
     (omega arith) (rw c.session-words.ensures at c.in_ok-session.ensures.answers)
     (runs-unread c.in_err-replay.field-0.0 source
-    (λ (files : Files) (numbers : List ℕ). by_own_draws source (queried form.session files (source_at replay_step numbers) (opened_by c.in_ok-session.session)))
+    (λ (files : Files) (numbers : List ℕ). by_own_draws source
+    (queried form.session files (source_at replay_step numbers) (opened_by c.in_ok-session.session)))
     (g.S.Shelf.files c.args.shelf.now) (λ files. drawn files form.draws_name)
     (g.S.Shelf.faults c.session_of.new.shelf) (g.S.Shelf.faults c.read_replay.new.shelf) (g.K.Sink.held c.args.out.now)
     (rw (c.in_ok-session.ensures.same_files, c.draws_name.ensures) at c.in_err-replay.ensures.answers)))
@@ -48,10 +49,13 @@ returns-clause-runs g c = λ source.
     (g.S.Shelf.faults c.args.shelf.now) (g.S.Shelf.faults c.session_of.new.shelf) (g.S.Shelf.faults c.answer_file.new.shelf) _ _ _
     (omega arith) (rw c.session-words.ensures at c.in_ok-session.ensures.answers)
     (runs-after c.answer_file.result source
-    (λ (files : Files) (numbers : List ℕ). by_own_draws source (queried form.session files (source_at replay_step numbers) (opened_by c.in_ok-session.session)))
+    (λ (files : Files) (numbers : List ℕ). by_own_draws source
+    (queried form.session files (source_at replay_step numbers) (opened_by c.in_ok-session.session)))
     (g.S.Shelf.files c.args.shelf.now) (λ files. drawn files form.draws_name) (numbers_left c.in_ok-replay.replay)
     (g.S.Shelf.faults c.session_of.new.shelf) (g.S.Shelf.faults c.read_replay.new.shelf) (g.S.Shelf.faults c.answer_file.new.shelf) _ _ _
     (omega arith) (rw (c.in_ok-session.ensures.same_files, c.draws_name.ensures) at c.in_ok-replay.ensures.answers)
     (runs-own c.answer_file.result source (g.S.Shelf.files c.args.shelf.now)
-    (λ files. queried form.session files (source_at replay_step (numbers_left c.in_ok-replay.replay)) (opened_by c.in_ok-session.session)) _ _ _ _ _
-    (rw (c.in_ok-replay.ensures.same_files, c.in_ok-session.ensures.same_files, c.queries_name.ensures, c.session-words.ensures) at c.answer_file.ensures.runs)))
+    (λ files. queried form.session files (source_at replay_step (numbers_left c.in_ok-replay.replay))
+    (opened_by c.in_ok-session.session)) _ _ _ _ _
+    (rw (c.in_ok-replay.ensures.same_files, c.in_ok-session.ensures.same_files, c.queries_name.ensures, c.session-words.ensures) at
+    c.answer_file.ensures.runs)))

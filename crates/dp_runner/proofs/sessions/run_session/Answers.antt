@@ -33,6 +33,7 @@ returns-clause-runs g c =
 
 pub returns-clause-taken : goal.returns-clause-taken
 returns-clause-taken g c = λ other.
-    run-taken g.D.Draws.step (g.D.Draws.state c.args.draws.now) _ c.args.form.now (g.S.Shelf.files c.args.shelf.now) (opened_by c.in_ok-session.session)
+    run-taken g.D.Draws.step (g.D.Draws.state c.args.draws.now) _ c.args.form.now (g.S.Shelf.files c.args.shelf.now)
+    (opened_by c.in_ok-session.session)
     c.in_ok-session.ensures.answers
     (rw (c.in_ok-session.ensures.same_files, c.queries_name.ensures) at (c.answer_file.ensures.taken other))
