@@ -1,6 +1,7 @@
 -- What a run that answers queries on data reads, and the draws that it takes.
-use Rattle.std.proofs.Common.{◌≡◌, ◌∙◌, ℕ, List, Option, Some, Ok, Err, sym, ap, subst}
+use Rattle.std.proofs.Common.{◌≡◌, ◌≢◌, ◌∙◌, ◌<◌, ◌≤◌, ◌^◌, ℕ, List, Option, Some, Result, Ok, Err, refl, sym, ap, arith, subst}
 use Rattle.std.specs.Option.{ForSome}
+use Rattle.dp_count.specs.Faults.{Rose}
 use Rattle.dp_draws.specs.Taking.{Turn}
 use Rattle.dp_io.specs.Shelf.{Files}
 use Rattle.dp_law.specs.Releasing.{TakesFront}
@@ -8,6 +9,7 @@ use Rattle.dp_pipeline.specs.declared.content.Content.{Content}
 use Rattle.dp_session.specs.Sessions.{SessionValue, IsSessionAt}
 use Rattle.dp_store.specs.Stores.{StoreValue}
 use Rattle.dp_runner.specs.declared.stop.Stop.{Stop}
+use Rattle.dp_runner.specs.declared.stop.Stop.TheVariants as stop
 use Rattle.dp_runner.specs.Answering.{file_shape}
 use Rattle.dp_runner.specs.Pipelines.{pipeline_at}
 use Rattle.dp_runner.specs.Sessions.{SessionForm, Opened, stored, opened_by, file_records, opened, on_records, shape_on, form_shape}
@@ -46,3 +48,10 @@ pub run-taken : (step : List ℕ → ℕ → Turn) (before after : List ℕ) (fo
 unfolding form_shape
 run-taken step before after form told found read h = λ files is.
     subst (λ shape. TakesFront step shape before after) (sym (ap (shape_on form files) (read files is))) (h files is)
+
+-- a count that rose, or stayed, did not fall
+pub never-falls : (result : Result (Unit {0}) Stop) (before now : ℕ) → (result ≡ Err stop.DrawFault → Rose before now)
+    → (result ≢ Err stop.DrawFault → now ≡ before) → before < 2 ^ 64 → before ≤ now
+never-falls (Ok done) before now rose kept few = let same = kept (λ e. absurd (cc)) in omega arith
+never-falls (Err stop.DrawFault) before now rose kept few = let r = rose refl in omega arith
+never-falls (Err reason) before now rose kept few = let same = kept (λ e. absurd (cc)) in omega arith

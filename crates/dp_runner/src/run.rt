@@ -118,6 +118,7 @@ pub fn run_words<S: Shelf, D: Draws, K: Sink, E: Sink>(
     ensures source_rose { result ≡ 6 → (command (map string_bytes words.now)).keeps_source ≡ false
         → Rose (D.faults draws.old) (D.faults draws.new) }
     ensures source_kept { result ≢ 6 → D.faults draws.new ≡ D.faults draws.old }
+    ensures source_later { D.faults draws.old ≤ D.faults draws.new }
 
     // Unless it failed, it stands where taking some first part of the run's draws leaves it.
     ensures taken { result ≢ 6 → ForSome (S.files shelf.old) (λ files. TakesFront D.step
@@ -179,6 +180,7 @@ fn run<S: Shelf, D: Draws, K: Sink>(
     ensures source_rose { result ≡ Err Stop.DrawFault → (command (map string_bytes words.now)).keeps_source ≡ false
         → Rose (D.faults draws.old) (D.faults draws.new) }
     ensures source_kept { result ≢ Err Stop.DrawFault → D.faults draws.new ≡ D.faults draws.old }
+    ensures source_later { D.faults draws.old ≤ D.faults draws.new }
     ensures taken { result ≢ Err Stop.DrawFault → ForSome (S.files shelf.old) (λ files. TakesFront D.step
         ((command (map string_bytes words.now)).shape files) (D.state draws.old) (D.state draws.new)) }
     ensures later { S.faults shelf.old ≤ S.faults shelf.new }

@@ -5,6 +5,7 @@ use Rattle.dp_runner.specs.Forms.{command}
 use Rattle.dp_runner.specs.Outcome.{Source}
 use Rattle.dp_runner.proofs.FileRuns.{none-taken}
 use Rattle.dp_runner.proofs.FormRuns.{of-form, account-early, form-taken}
+use Rattle.dp_runner.proofs.SessionRuns.{never-falls}
 use Rattle.dp_runner.proofs.run.run.Goals as goal
 
 pub returns-in-Some-Count-clause-runs : goal.returns-in-Some-Count-clause-runs
@@ -77,3 +78,8 @@ returns-in-Some-Run-clause-taken g c = λ other.
     form-taken (map string_bytes c.args.words.now) (form.Run c.in-Some-Run.form) g.D.Draws.step (g.D.Draws.state c.args.draws.now) _
     (g.S.Shelf.files c.args.shelf.now) (sym c.form_of.ensures ∙ c.in-Some-Run.is ∙ ap Some c.in-Some-Run.field-0-is)
     (c.run_session.ensures.taken other)
+
+pub returns-in-Some-Run-clause-source_later : goal.returns-in-Some-Run-clause-source_later
+returns-in-Some-Run-clause-source_later g c =
+    never-falls c.run_session.result _ _ c.run_session.ensures.draw_fault c.run_session.ensures.draws_kept
+    (g.met.D.Draws.few_faults c.args.draws.now)
