@@ -15,5 +15,6 @@ pub mod Roots
 pub mod ServedLines
 pub mod ServedTasks
 pub mod Standing
+pub mod Transcripts
 pub mod Verdicts
 pub mod Ways

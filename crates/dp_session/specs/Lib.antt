@@ -9,6 +9,7 @@ pub mod SessionLines
 pub mod Sessions
 pub mod Serving
 pub mod Settling
+pub mod Transcripts
 pub mod Values
 pub mod Works
 pub mod Verdicts

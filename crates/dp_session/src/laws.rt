@@ -3,6 +3,7 @@ ghost use Rattle.dp_session.specs.Privacy.{SameReplyLaw, HistoryLaw, NodeValuesL
 ghost use Rattle.dp_session.specs.Privacy.{PrivacyLaw, RecordsPrivacyLaw};
 ghost use Rattle.dp_session.specs.RunWays.{RunWaysLaw};
 ghost use Rattle.dp_session.specs.PrivacyEdges.{EdgeLaw};
+ghost use Rattle.dp_session.specs.Transcripts.{TranscriptLaw, SessionShapeLaw};
 
 /// The number of draw lists of a run that give a list of replies is the product of the ways of its accepted asks. It
 /// is 0 where there are not as many replies as queries, where the reply to a refused query is not its refusal or that
@@ -34,6 +35,13 @@ pub fn edge_law()
     ensures { EdgeLaw }
 {}
 
+/// On all root values and draws the lines that a session writes are those of its replies: nothing else is told of the
+/// records. The bounds of its draws are those of the run.
+pub fn transcript_law()
+    ensures lines { TranscriptLaw }
+    ensures shape { SessionShapeLaw }
+{}
+
 #[cfg(test)]
 mod tests {
     use super::*;
@@ -48,11 +56,14 @@ mod tests {
         ensures texts { PrivacyLaw }
         ensures records { RecordsPrivacyLaw }
         ensures edge { EdgeLaw }
+        ensures lines { TranscriptLaw }
+        ensures shape { SessionShapeLaw }
     {
         ways_law();
         nodes_law();
         privacy_law();
         edge_law();
+        transcript_law();
     }
 
     #[test]
