@@ -8,6 +8,8 @@ use dp_tree::{FindFault, SeatFault};
 use std::alloc::Global;
 use std::test::Fail;
 
+mod sessions;
+
 /// A pipeline of two columns with the ratio 1/2, and a filter of five units at its root.
 const FILTER_OF_FIVE: &[u8] = br#"{"version":1,"columns":["sex","age"],"header":false,"ratio":[1,2],
 "distance":1,"root":["filter",5],"plans":{}}"#;

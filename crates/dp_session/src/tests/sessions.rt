@@ -1,0 +1,424 @@
+ghost use Rattle.std.specs.Prelude.{◌≡◌, ◌+◌, ◌≤◌, ◌<◌, ◌^◌, length, IfOk};
+
+use crate::{EndFault, Session, SessionFault};
+use dp_draws::{Draws, NoDraws, Replay, Zeros};
+use dp_io::MemSink;
+use dp_num::Steps;
+use dp_pipeline::read_pipeline;
+use dp_store::store_of;
+use std::alloc::Global;
+use std::marker::Brand;
+use std::process::Abort;
+use std::sync::ledger::{Blank, Ledger};
+use std::test::Fail;
+
+/// A pipeline of two columns with an odometer at its root.
+const ODOMETER: &[u8] = br#"{"version":1,"columns":["sex","age"],"header":false,"ratio":[1,2],
+"distance":1,"root":["odometer"],"plans":{}}"#;
+
+/// The same, where siblings stay open.
+const OPEN_SIBLINGS: &[u8] = br#"{"version":2,"siblings":"open","columns":["sex","age"],
+"header":false,"ratio":[1,2],"distance":1,"root":["odometer"],"plans":{}}"#;
+
+/// The same, where siblings are frozen.
+const FROZEN_SIBLINGS: &[u8] = br#"{"version":2,"siblings":"frozen","columns":["sex","age"],
+"header":false,"ratio":[1,2],"distance":1,"root":["odometer"],"plans":{}}"#;
+
+/// Records of a sex and an age.
+const PERSONS: &[u8] = b"F,34\nM,51\nF,7\n";
+
+/// A child of the records of women.
+const OPEN_WOMEN: &[u8] =
+    br#"{"node":0,"open":[["filter","sex","F"]],"distance":1,"budget":["filter",1]}"#;
+
+/// A count of all records, and one of those of the first child.
+const COUNT: &[u8] = br#"{"node":0,"ask":[["count"],["geometric",1,0,5]]}"#;
+
+const COUNT_BELOW: &[u8] = br#"{"node":1,"ask":[["count"],["geometric",1,0,5]]}"#;
+
+/// A count whose range is the one number 0.
+const COUNT_NONE: &[u8] = br#"{"node":0,"ask":[["count"],["geometric",1,0,0]]}"#;
+
+/// The session of a pipeline's text on the records of a text.
+fn session_of(alloc: Global, pipeline: &[u8], data: &[u8]) -> Result<Session, Fail>
+    requires { length data.now ≤ 2 ^ 30 }
+    ensures { IfOk result (λ session. session.queries.answered ≡ 0) }
+{
+    let pipeline = read_pipeline(alloc, pipeline)?;
+    let columns = pipeline.columns().len() as u32;
+    let store = store_of(alloc, data, columns, pipeline.header())?;
+    Ok(Session::over(alloc, pipeline, store)?)
+}
+
+/// The same session, made of the records as a value.
+fn session_of_value(alloc: Global, pipeline: &[u8], data: &[u8]) -> Result<Session, Fail>
+    requires { length data.now ≤ 2 ^ 30 }
+    ensures { IfOk result (λ session. session.queries.answered ≡ 0) }
+{
+    let pipeline = read_pipeline(alloc, pipeline)?;
+    let columns = pipeline.columns().len() as u32;
+    let store = store_of(alloc, data, columns, pipeline.header())?;
+    let records = store.rows(alloc, &store.whole(alloc)?)?;
+    Ok(Session::new(alloc, pipeline, records)?)
+}
+
+/// An output of at most 1,000 bytes that never fails.
+fn output(alloc: Global) -> Result<MemSink, Fail> {
+    Ok(MemSink::new(alloc, 1000, Vec::new(alloc), 1000)?)
+}
+
+/// Answers a line.
+fn answer<D: Draws>(
+    alloc: Global,
+    session: &mut Session,
+    line: &[u8],
+    draws: &mut D,
+    out: &mut MemSink,
+) -> Result<(), SessionFault>
+    requires { session.old.queries.answered < 2 ^ 20 }
+    ensures { session.new.queries.answered ≤ session.old.queries.answered + 1 }
+{
+    answer_by::<D, Brand>(alloc, session, line, draws, out, Blank::new(1))
+}
+
+/// Answers a line by a ledger of steps.
+fn answer_by<D: Draws, L: Ledger>(
+    alloc: Global,
+    session: &mut Session,
+    line: &[u8],
+    draws: &mut D,
+    out: &mut MemSink,
+    blank: Blank,
+) -> Result<(), SessionFault>
+    requires name { blank.name ≡ L.name }
+    requires parts { blank.parts ≡ L.parts }
+    requires counts { 0 < L.parts }
+    requires few { session.old.queries.answered < 2 ^ 20 }
+    ensures { session.new.queries.answered ≤ session.old.queries.answered + 1 }
+{
+    session.answer(alloc, line, draws, out, &mut Steps::<L>::new(blank))
+}
+
+/// Answers three lines by draws that are all 0.
+fn answer_three(
+    alloc: Global,
+    session: &mut Session,
+    lines: [&[u8]; 3],
+    out: &mut MemSink,
+) -> Result<(), SessionFault>
+    requires { session.old.queries.answered < 100 }
+    ensures { session.new.queries.answered ≤ session.old.queries.answered + 3 }
+{
+    let [first, second, third] = lines;
+    let mut draws = Zeros::new();
+    answer(alloc, session, first, &mut draws, out)?;
+    answer(alloc, session, second, &mut draws, out)?;
+    answer(alloc, session, third, &mut draws, out)
+}
+
+/// What a session writes of three lines and the last one.
+fn written_of(alloc: Global, session: Session, lines: [&[u8]; 3]) -> Result<Vec<u8>, Fail>
+    requires { session.queries.answered ≡ 0 }
+{
+    let mut session = session;
+    let mut out = output(alloc)?;
+    answer_three(alloc, &mut session, lines, &mut out)?;
+    session.end(&mut out)?;
+    Ok(Vec::from_slice(alloc, out.held())?)
+}
+
+/// The numbers of the records that are held of a node.
+fn held(alloc: Global, session: &Session, node: u64) -> Result<Option<Vec<u32>>, Fail> {
+    let Some(selection) = session.selection(node) else {
+        return Ok(None);
+    };
+    let mut numbers = Vec::new(alloc);
+    for k in 0..selection.len() {
+        numbers.push(selection.at(k))?;
+    }
+    Ok(Some(numbers))
+}
+
+/// That these records are held of a node.
+fn holds(
+    rt: &(impl Abort + AllocGlobal),
+    session: &Session,
+    node: u64,
+    wanted: &[u32],
+) -> Result<(), Fail> {
+    let Some(numbers) = held(rt.alloc(), session, node)? else {
+        panic!(rt; "no selection");
+    };
+    assert_eq!(rt; numbers.as_slice(), wanted);
+    Ok(())
+}
+
+#[test]
+fn a_selection_is_held_of_each_node_of_records_that_is_not_frozen(
+    rt: HostRuntime,
+) -> Result<(), Fail> {
+    let alloc = rt.alloc();
+    let mut session = session_of(alloc, ODOMETER, PERSONS)?;
+    let mut out = output(alloc)?;
+    answer(alloc, &mut session, OPEN_WOMEN, &mut Zeros::new(), &mut out)?;
+    holds(&rt, &session, 0, &[0, 1, 2])?;
+    holds(&rt, &session, 1, &[0, 2])?;
+    assert!(rt; session.selection(5).is_none());
+    let number = br#"{"node":0,"open":[["count"]],"distance":1,"budget":["filter",1]}"#.as_slice();
+    answer(alloc, &mut session, number, &mut Zeros::new(), &mut out)?;
+    holds(&rt, &session, 0, &[0, 1, 2])?;
+    assert!(rt; session.selection(1).is_none());
+    assert!(rt; session.selection(2).is_none());
+    session.end(&mut out)?;
+    assert!(rt; session.selection(0).is_none());
+    assert_eq!(rt;
+        out.held(),
+        b"1 node cost 1 spent 1\n2 node cost 1 spent 2\nend 2 spent 2\n".as_slice()
+    );
+    Ok(())
+}
+
+#[test]
+fn a_value_of_records_and_a_store_of_their_text_give_the_same_lines(
+    rt: HostRuntime,
+) -> Result<(), Fail> {
+    let alloc = rt.alloc();
+    let lines = [OPEN_WOMEN, COUNT_BELOW, COUNT];
+    let wanted = b"1 node cost 1 spent 1
+2 answer 2 cost 1 spent 1
+3 answer 3 cost 1 spent 2
+end 3 spent 2
+"
+        .as_slice();
+    let of_store = session_of(alloc, ODOMETER, PERSONS)?;
+    assert_eq!(rt; written_of(alloc, of_store, lines)?.as_slice(), wanted);
+    let of_value = session_of_value(alloc, ODOMETER, PERSONS)?;
+    assert_eq!(rt; written_of(alloc, of_value, lines)?.as_slice(), wanted);
+    Ok(())
+}
+
+/// A pipeline of three columns with a plan.
+const CENSUS: &[u8] =
+    br#"{"version":1,"columns":["sex","age","district"],"header":true,"ratio":[9,10],
+"distance":1,"root":["filter",20],
+"plans":{"women":[["filter","sex","F"],["count"],["geometric",1,0,12]]}}"#;
+
+/// Twelve records below a header.
+const CENSUS_RECORDS: &[u8] = b"sex,age,district
+F,34,North
+M,51,South
+F,7,North
+F,68,East
+M,29,North
+M,12x,South
+F,45,South
+F,81,North
+M,17,East
+F,22,North
+M,66,South
+F,39,East
+";
+
+const WOMEN: &[u8] = br#"{"node":0,"ask":"women"}"#;
+
+/// The ages in four bins.
+const AGES: &[u8] = br#"{"node":0,"ask":[["select","age"],["cast"],["dropnone"],
+["bins",[18,40,65]],["histogram"],["geometric",2,0,4]]}"#;
+
+/// A choice of a district.
+const DISTRICT: &[u8] = br#"{"node":0,"ask":[["select","district"],
+["categories",["North","South","East"]],["histogram"],["choice",1,0,10]]}"#;
+
+#[test]
+fn a_number_a_vector_and_a_category_are_written(rt: HostRuntime) -> Result<(), Fail> {
+    let alloc = rt.alloc();
+    let session = session_of(alloc, CENSUS, CENSUS_RECORDS)?;
+    assert_eq!(rt;
+        written_of(alloc, session, [WOMEN, AGES, DISTRICT])?.as_slice(),
+        b"1 answer 7 cost 1 spent 1
+2 answer [2,4,2,3] cost 2 spent 3
+3 answer #0 cost 3 spent 6
+end 3 spent 6
+"
+            .as_slice()
+    );
+    Ok(())
+}
+
+/// Two counts in one ask.
+const TWO_PARTS: &[u8] = br#"{"node":0,"ask":["all",[["count"],["geometric",1,0,0]],
+[["count"],["geometric",2,0,5]]]}"#;
+
+#[test]
+fn parts_are_written_in_parentheses(rt: HostRuntime) -> Result<(), Fail> {
+    let alloc = rt.alloc();
+    let session = session_of(alloc, ODOMETER, b"")?;
+    assert_eq!(rt;
+        written_of(alloc, session, [TWO_PARTS, b"{", COUNT_NONE])?.as_slice(),
+        b"1 answer (0;0) cost 3 spent 3
+2 refused 1 malformed
+3 answer 0 cost 1 spent 4
+end 3 spent 4
+"
+            .as_slice()
+    );
+    Ok(())
+}
+
+/// That a source of too few draws ends a session, which writes nothing.
+fn runs_out<D: Draws>(rt: &(impl Abort + AllocGlobal), draws: &mut D) -> Result<(), Fail> {
+    let alloc = rt.alloc();
+    let mut session = session_of(alloc, ODOMETER, PERSONS)?;
+    let mut out = output(alloc)?;
+    let first = answer(alloc, &mut session, COUNT, draws, &mut out);
+    assert_eq!(rt; first, Err(SessionFault::DrawFault));
+    let second = answer(alloc, &mut session, OPEN_WOMEN, draws, &mut out);
+    assert_eq!(rt; second, Err(SessionFault::Ended));
+    assert_eq!(rt; session.end(&mut out), Err(EndFault::Ended));
+    assert_eq!(rt; out.held(), b"".as_slice());
+    Ok(())
+}
+
+#[test]
+fn a_draw_fault_ends_a_session_and_writes_nothing(rt: HostRuntime) -> Result<(), Fail> {
+    runs_out(&rt, &mut NoDraws::new())?;
+    let five = vec![in rt.alloc(); 0, 0, 0, 0, 0]?;
+    runs_out(&rt, &mut Replay::new(five))
+}
+
+#[test]
+fn a_write_fault_ends_a_session_and_leaves_a_front_of_the_line(
+    rt: HostRuntime,
+) -> Result<(), Fail> {
+    let alloc = rt.alloc();
+    let mut session = session_of(alloc, ODOMETER, PERSONS)?;
+    let mut out = MemSink::new(alloc, 4, vec![in alloc; 2]?, 1000)?;
+    let mut draws = Zeros::new();
+    let first = answer(alloc, &mut session, COUNT, &mut draws, &mut out);
+    assert_eq!(rt; first, Err(SessionFault::WriteFault));
+    let second = answer(alloc, &mut session, COUNT, &mut draws, &mut out);
+    assert_eq!(rt; second, Err(SessionFault::Ended));
+    assert_eq!(rt; session.end(&mut out), Err(EndFault::Ended));
+    assert_eq!(rt; out.held(), b"1 an".as_slice());
+    Ok(())
+}
+
+/// A pipeline whose first column names a person, with a plan of at most two records of each.
+const PERSON: &[u8] = br#"{"version":1,"columns":["id","item"],"header":false,"user":"id",
+"ratio":[1,2],"distance":1,"root":["odometer"],
+"plans":{"p":[["truncate",2],["count"],["geometric",1,0,5]]}}"#;
+
+/// The records of two persons.
+const ITEMS: &[u8] = b"a,x\nb,y\na,w\na,x\nb,y\n";
+
+const TRUNCATED_TO_NONE: &[u8] =
+    br#"{"node":0,"ask":[["truncate",0],["count"],["geometric",1,0,5]]}"#;
+
+const TRUNCATED_TO_ONE: &[u8] = br#"{"node":0,"ask":[["filter","item","y"],["truncate",1],
+["count"],["geometric",1,0,5]]}"#;
+
+/// A child of at most two records of each person.
+const OPEN_TWO: &[u8] = br#"{"node":0,"open":[["truncate",2]],"distance":4,"budget":["filter",1]}"#;
+
+#[test]
+fn queries_where_a_person_is_the_unit(rt: HostRuntime) -> Result<(), Fail> {
+    let alloc = rt.alloc();
+    let mut session = session_of(alloc, PERSON, ITEMS)?;
+    let mut out = output(alloc)?;
+    let plan = br#"{"node":0,"ask":"p"}"#.as_slice();
+    let lines = [plan, COUNT, TRUNCATED_TO_NONE];
+    answer_three(alloc, &mut session, lines, &mut out)?;
+    answer(
+        alloc,
+        &mut session,
+        TRUNCATED_TO_ONE,
+        &mut Zeros::new(),
+        &mut out,
+    )?;
+    session.end(&mut out)?;
+    assert_eq!(rt;
+        out.held(),
+        b"1 answer 4 cost 4 spent 4
+2 refused 4 construction 2
+3 refused 4 construction 3
+4 answer 1 cost 2 spent 6
+end 4 spent 6
+"
+            .as_slice()
+    );
+    Ok(())
+}
+
+#[test]
+fn the_least_records_of_each_person_are_kept(rt: HostRuntime) -> Result<(), Fail> {
+    let alloc = rt.alloc();
+    let mut session = session_of(alloc, PERSON, ITEMS)?;
+    let mut out = output(alloc)?;
+    answer(alloc, &mut session, OPEN_TWO, &mut Zeros::new(), &mut out)?;
+    holds(&rt, &session, 1, &[0, 1, 2, 4])
+}
+
+/// What a session writes of queries at nodes below each other.
+fn written_below(alloc: Global, pipeline: &[u8]) -> Result<Vec<u8>, Fail> {
+    let mut session = session_of(alloc, pipeline, PERSONS)?;
+    let mut out = output(alloc)?;
+    let opens = [
+        br#"{"node":0,"open":[],"distance":1,"budget":["filter",4]}"#.as_slice(),
+        br#"{"node":1,"open":[],"distance":1,"budget":["filter",2]}"#.as_slice(),
+        COUNT_NONE,
+    ];
+    let asks = [
+        br#"{"node":2,"ask":[["count"],["geometric",1,0,0]]}"#.as_slice(),
+        br#"{"node":1,"ask":[["count"],["geometric",1,0,0]]}"#.as_slice(),
+        br#"{"node":9,"ask":[["count"],["geometric",1,0,0]]}"#.as_slice(),
+    ];
+    answer_three(alloc, &mut session, opens, &mut out)?;
+    answer_three(alloc, &mut session, asks, &mut out)?;
+    session.end(&mut out)?;
+    Ok(Vec::from_slice(alloc, out.held())?)
+}
+
+#[test]
+fn nodes_below_a_query_are_frozen_unless_siblings_stay_open(rt: HostRuntime) -> Result<(), Fail> {
+    assert_eq!(rt;
+        written_below(rt.alloc(), OPEN_SIBLINGS)?.as_slice(),
+        b"1 node cost 4 spent 4
+2 node cost 2 spent 4
+3 answer 0 cost 1 spent 5
+4 answer 0 cost 1 spent 5
+5 answer 0 cost 1 spent 5
+6 refused 2 no-node
+end 6 spent 5
+"
+            .as_slice()
+    );
+    assert_eq!(rt;
+        written_below(rt.alloc(), FROZEN_SIBLINGS)?.as_slice(),
+        b"1 node cost 4 spent 4
+2 node cost 2 spent 4
+3 answer 0 cost 1 spent 5
+4 refused 3 frozen 0 3
+5 refused 3 frozen 0 3
+6 refused 2 no-node
+end 6 spent 5
+"
+            .as_slice()
+    );
+    Ok(())
+}
+
+#[test]
+fn siblings_that_stay_open_are_both_held(rt: HostRuntime) -> Result<(), Fail> {
+    let alloc = rt.alloc();
+    let mut session = session_of(alloc, OPEN_SIBLINGS, PERSONS)?;
+    let mut out = output(alloc)?;
+    let lines = [OPEN_WOMEN, OPEN_WOMEN, COUNT_BELOW];
+    answer_three(alloc, &mut session, lines, &mut out)?;
+    holds(&rt, &session, 1, &[0, 2])?;
+    holds(&rt, &session, 2, &[0, 2])?;
+    assert_eq!(rt;
+        out.held(),
+        b"1 node cost 1 spent 1\n2 node cost 1 spent 2\n3 answer 2 cost 1 spent 2\n".as_slice()
+    );
+    Ok(())
+}
