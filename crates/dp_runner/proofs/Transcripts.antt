@@ -210,7 +210,7 @@ queried-complete form files source content text queries draws last h gives =
     ap (λ found. once_read source (answered source (session_answering content (data_root content text))) (or_stop stop.ReadFault found)) h.queries_file
     ∙ answered-all source content (data_root content text) queries draws last h.none_over gives
 
-done-is : (one : Outcome) (bytes last : List ℕ) → one ≡ record { bytes = bytes; stop = None; last = last } → IsDone one bytes last
+pub done-is : (one : Outcome) (bytes last : List ℕ) → one ≡ record { bytes = bytes; stop = None; last = last } → IsDone one bytes last
 done-is one bytes last e = rw e (record { bytes_are = refl; stop_is = refl; last_is = refl })
 
 pub run-done : (words : List (List ℕ)) (files : Files) (source : Source) (run : SessionForm) (content : Content) (text queries draws last : List ℕ)
