@@ -1,14 +1,13 @@
 -- The text of the pipeline of `sample` is accepted.
-use Rattle.std.proofs.Common.{◌≡◌, ◌∙◌, ℕ, List, Result, Ok, Err, refl, sym, ap}
+use Rattle.std.proofs.Common.{◌≡◌, ◌∙◌, ℕ, List, Ok, Err, refl, ap}
 use Rattle.std.specs.Str.{is_utf8, chars}
 use Rattle.serde_json.proofs.OnLiterals.{serde_json_on_literals}
-use Rattle.dp_budget.specs.declared.budget.Rule.{Rule}
 use Rattle.dp_rowwise.specs.Categories.{are_different}
 use Rattle.dp_pipeline.specs.declared.faults.PipelineFault.{PipelineFault}
 use Rattle.dp_pipeline.specs.declared.faults.PipelineFault.TheVariants as fault
 use Rattle.dp_pipeline.specs.Answers.{Answers}
 use Rattle.dp_pipeline.specs.declared.content.Content.{Content}
-use Rattle.dp_pipeline.specs.Accepted.{accepted, are_columns, is_in_range, is_name_byte, is_plan_name, plans_made}
+use Rattle.dp_pipeline.specs.Accepted.{accepted, are_columns, is_in_range, plans_made}
 use Rattle.dp_pipeline.specs.Contents.{content_of, pair_of, plans_in, has_only}
 use Rattle.dp_pipeline.specs.Json.{json_of, array_of, object_of, member_at, text_of, count_of, all_of}
 use Rattle.dp_pipeline.specs.RootForms.{rule_of, rule_by}

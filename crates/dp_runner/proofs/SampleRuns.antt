@@ -1,7 +1,6 @@
 -- What `sample` does: its lines by draws of 0, where its words are of its form.
-use Rattle.std.proofs.Common.{◌≡◌, ◌∙◌, ◌<◌, ◌≤◌, ◌^◌, ℕ, Bool, true, false, nat_le, List, [], ◌∷◌, ◌++◌, length, Option, Some, None, Result, Ok, Err, refl, sym, ap, arith, subst, if◌then◌else◌}
+use Rattle.std.proofs.Common.{◌≡◌, ◌∙◌, ◌≤◌, ◌^◌, ℕ, Bool, true, false, nat_le, List, [], ◌∷◌, ◌++◌, length, Option, Some, None, Result, Ok, Err, refl, ap, arith, subst, if◌then◌else◌}
 use Rattle.std.specs.Prelude.{replicate, codes, ◌&&◌, option_and_then, option_map}
-use Rattle.std.specs.Option.{ForSome}
 use Rattle.std.specs.Str.{bytes_eq}
 use Rattle.std.specs.Fmt as fmt
 use Rattle.std.proofs.lemmas.Bool.Decides.{nat_tests}
@@ -18,14 +17,14 @@ use Rattle.dp_runner.specs.declared.form.Form.TheVariants as form
 use Rattle.dp_runner.specs.declared.stop.Stop.{Stop}
 use Rattle.dp_runner.specs.declared.stop.Stop.TheVariants as stop
 use Rattle.dp_runner.specs.Account.{account_form}
-use Rattle.dp_runner.specs.Answering.{answered, session_answering}
-use Rattle.dp_runner.specs.Causes.{HasDone, Kept, Runs}
+use Rattle.dp_runner.specs.Answering.{answered}
+use Rattle.dp_runner.specs.Causes.{Kept, Runs}
 use Rattle.dp_runner.specs.Check.{check_form}
 use Rattle.dp_runner.specs.Count.{count_form}
 use Rattle.dp_runner.specs.Forms.{form_of, form_after, outcome}
 use Rattle.dp_runner.specs.Laws.{IsDone, data_root}
 use Rattle.dp_runner.specs.Outcome.{Source, Outcome, preceded_by, by_own_draws}
-use Rattle.dp_runner.specs.Sample.{record_count, record_count_of, sample_form, sample_text, sample_pipeline, sampled, sample_queries, records_line, zeros, sample_outcome}
+use Rattle.dp_runner.specs.Sample.{record_count, sample_form, sample_text, sample_pipeline, sampled, sample_queries, records_line, zeros, sample_outcome}
 use Rattle.dp_runner.specs.SampleLaw.{zeros_transcript}
 use Rattle.dp_runner.specs.Sessions.{Opened, on_records, run_form, replay_form, rehearse_form}
 use Rattle.dp_runner.specs.Turns.{RunsTo}

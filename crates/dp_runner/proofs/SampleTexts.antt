@@ -1,5 +1,5 @@
 -- The data text of `sample`, record by record.
-use Rattle.std.proofs.Common.{◌≡◌, ◌∙◌, ◌+◌, ◌*◌, ◌%◌, ◌≤◌, ◌==◌, ℕ, zero, suc, Bool, true, false, List, [], ◌∷◌, ◌++◌, length, map, refl, sym, ap, arith, if◌then◌else◌, length-append, add-one}
+use Rattle.std.proofs.Common.{◌≡◌, ◌∙◌, ◌+◌, ◌*◌, ◌%◌, ◌≤◌, ◌==◌, ℕ, zero, suc, Bool, true, false, [], ◌∷◌, ◌++◌, length, map, refl, sym, ap, arith, if◌then◌else◌, length-append, add-one}
 use Rattle.std.specs.Prelude.{codes}
 use Rattle.std.specs.Fmt as fmt
 use Rattle.std.specs.List.{concat, range_with_len}

@@ -1,5 +1,5 @@
 -- What a run that answers queries on data reads, and the draws that it takes.
-use Rattle.std.proofs.Common.{◌≡◌, ◌∙◌, ℕ, List, Option, Some, Ok, Err, sym, ap, subst}
+use Rattle.std.proofs.Common.{◌≡◌, ◌∙◌, ℕ, List, Option, Ok, Err, sym, ap, subst}
 use Rattle.std.specs.Option.{ForSome}
 use Rattle.dp_draws.specs.Taking.{Turn}
 use Rattle.dp_io.specs.Shelf.{Files}

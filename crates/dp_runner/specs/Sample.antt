@@ -54,7 +54,8 @@ sample_text records = concat (map sample_line (range_with_len 0 records))
 -- its text
 abbrev pub sample_pipeline_text : List ℕ
 sample_pipeline_text =
-    codes "{\"version\":1,\"columns\":[\"sex\",\"age\",\"district\"],\"header\":false,\"ratio\":[9,10],\"distance\":1,\"root\":[\"odometer\"],\"plans\":{}}"
+    codes "{\"version\":1,\"columns\":[\"sex\",\"age\",\"district\"],\"header\":false,\"ratio\":[9,10],"
+    ++ codes "\"distance\":1,\"root\":[\"odometer\"],\"plans\":{}}"
 
 -- what the text says: three columns, the ratio 9 / 10, the distance 1, and an odometer
 unfoldable pub sample_pipeline : Content
@@ -82,17 +83,21 @@ sampled records = record {
 
 -- how many records have the sex `F`, to the hundred
 abbrev pub women_query : List ℕ
-women_query = codes "{\"node\":0,\"ask\":[[\"filter\",\"sex\",\"F\"],[\"count\"],[\"quantise\",100],[\"geometric\",1,0,10000]]}"
+women_query =
+    codes "{\"node\":0,\"ask\":[[\"filter\",\"sex\",\"F\"],[\"count\"],[\"quantise\",100],"
+    ++ codes "[\"geometric\",1,0,10000]]}"
 
 -- the sum of the ages, to the thousand
 abbrev pub ages_query : List ℕ
 ages_query =
-    codes "{\"node\":0,\"ask\":[[\"select\",\"age\"],[\"cast\"],[\"impute\",0],[\"clamp\",0,100],[\"sum\"],[\"quantise\",1000],[\"geometric\",1,0,65535]]}"
+    codes "{\"node\":0,\"ask\":[[\"select\",\"age\"],[\"cast\"],[\"impute\",0],[\"clamp\",0,100],[\"sum\"],"
+    ++ codes "[\"quantise\",1000],[\"geometric\",1,0,65535]]}"
 
 -- a district by how near its number of records is to 200,000
 abbrev pub districts_query : List ℕ
 districts_query =
-    codes "{\"node\":0,\"ask\":[[\"select\",\"district\"],[\"categories\",[\"D0\",\"D1\",\"D2\",\"D3\",\"D4\"]],[\"histogram\"],[\"choice\",1,199900,200100]]}"
+    codes "{\"node\":0,\"ask\":[[\"select\",\"district\"],[\"categories\",[\"D0\",\"D1\",\"D2\",\"D3\",\"D4\"]],"
+    ++ codes "[\"histogram\"],[\"choice\",1,199900,200100]]}"
 
 -- the text of the three, each a line
 unfoldable pub sample_queries : List ℕ

@@ -28,20 +28,28 @@ const MOST_DIGITS: usize = 7;
 const MOST_RECORDS: u64 = 1_000_000;
 
 /// The text of the pipeline.
-const PIPELINE: &str =
-    r#"{"version":1,"columns":["sex","age","district"],"header":false,"ratio":[9,10],"distance":1,"root":["odometer"],"plans":{}}"#;
+const PIPELINE: &str = concat!(
+    r#"{"version":1,"columns":["sex","age","district"],"header":false,"ratio":[9,10],"#,
+    r#""distance":1,"root":["odometer"],"plans":{}}"#
+);
 
 /// How many records have the sex `F`, to the hundred.
-const WOMEN: &str =
-    r#"{"node":0,"ask":[["filter","sex","F"],["count"],["quantise",100],["geometric",1,0,10000]]}"#;
+const WOMEN: &str = concat!(
+    r#"{"node":0,"ask":[["filter","sex","F"],["count"],["quantise",100],"#,
+    r#"["geometric",1,0,10000]]}"#
+);
 
 /// The sum of the ages, to the thousand.
-const AGES: &str =
-    r#"{"node":0,"ask":[["select","age"],["cast"],["impute",0],["clamp",0,100],["sum"],["quantise",1000],["geometric",1,0,65535]]}"#;
+const AGES: &str = concat!(
+    r#"{"node":0,"ask":[["select","age"],["cast"],["impute",0],["clamp",0,100],["sum"],"#,
+    r#"["quantise",1000],["geometric",1,0,65535]]}"#
+);
 
 /// A district by how near its number of records is to 200,000.
-const DISTRICTS: &str =
-    r#"{"node":0,"ask":[["select","district"],["categories",["D0","D1","D2","D3","D4"]],["histogram"],["choice",1,199900,200100]]}"#;
+const DISTRICTS: &str = concat!(
+    r#"{"node":0,"ask":[["select","district"],["categories",["D0","D1","D2","D3","D4"]],"#,
+    r#"["histogram"],["choice",1,199900,200100]]}"#
+);
 
 /// What the words after `sample` say, if they are of its form: a number of records from 1 to 1,000,000.
 pub(crate) fn sample_form(words: &[String]) -> Option<u32>

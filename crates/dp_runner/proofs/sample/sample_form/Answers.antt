@@ -1,6 +1,5 @@
-use Rattle.std.proofs.Common.{◌∙◌, ◌≡◌, sym, ap, arith, ◌≢◌, length}
+use Rattle.std.proofs.Common.{◌∙◌, ◌≡◌, sym, ap, arith, length}
 use Rattle.std.specs.Prelude.{string_bytes}
-use Rattle.std.proofs.lemmas.Bool.Decides.{nat_tests}
 use Rattle.dp_runner.specs.Sample.{record_count_of}
 use Rattle.dp_runner.proofs.WordForms.{number-word, not_number-word}
 use Rattle.dp_runner.proofs.sample.sample_form.Goals as goal

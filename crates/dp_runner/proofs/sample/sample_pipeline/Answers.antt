@@ -1,6 +1,4 @@
-use Rattle.std.proofs.Common.{◌∙◌, ◌≡◌, sym, ap, Ok, Err}
-use Rattle.dp_pipeline.specs.Accepted.{accepted}
-use Rattle.dp_runner.proofs.SamplePipeline.{sample-accepted, ok-is, not-refused}
+use Rattle.dp_runner.proofs.SamplePipeline.{ok-is, not-refused}
 use Rattle.dp_runner.proofs.sample.sample_pipeline.Goals as goal
 
 pub unreachable-requires : goal.unreachable-requires

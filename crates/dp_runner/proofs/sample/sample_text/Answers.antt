@@ -1,5 +1,5 @@
 use Rattle.std.proofs.Common.{◌∙◌, ap, ◌++◌, sym}
-use Rattle.dp_runner.specs.Sample.{sample_line, sample_text}
+use Rattle.dp_runner.specs.Sample.{sample_line}
 use Rattle.dp_runner.proofs.SampleTexts.{text-none, text-more}
 use Rattle.dp_runner.proofs.sample.sample_text.Goals as goal
 
