@@ -13,6 +13,10 @@ pub mod PipelineSteps
 pub mod Refusals
 pub mod RunEnds
 pub mod Runs
+pub mod SamplePipeline
+pub mod SampleQueries
+pub mod SampleRuns
+pub mod SampleTexts
 pub mod SessionRuns
 pub mod Steps
 pub mod Transcripts

@@ -4,7 +4,6 @@ use Rattle.std.specs.Prelude.{reverse, codes}
 use mathlib.Core.List.{reverse_aux}
 use Rattle.std.specs.List.{concat}
 use Rattle.std.proofs.lemmas.List.{length-reverse, take-append-le, take_all, drop-append-le, drop_all}
-use Rattle.dp_count.specs.Results.{◌>>=◌}
 use Rattle.dp_count.specs.Slots.{Slot, joined_shape, replies}
 use Rattle.dp_domain.specs.declared.values.Value.{Value}
 use Rattle.dp_draws.specs.Numbers.{drawn_numbers}
@@ -27,7 +26,7 @@ use Rattle.dp_runner.specs.Forms.{form_of, outcome}
 use Rattle.dp_runner.specs.Laws.{IsDone, HasFiles, GivesAll, data_root}
 use Rattle.dp_runner.specs.Outcome.{Source, Outcome, source_at, or_stop, once_read, preceded_by, by_own_draws}
 use Rattle.dp_runner.specs.SessionLaws.{session_lines}
-use Rattle.dp_runner.specs.Sessions.{SessionForm, ReplayForm, RehearseForm, Opened, opened, file_records, queried, run_outcome, replay_outcome, rehearse_outcome, seeded}
+use Rattle.dp_runner.specs.Sessions.{SessionForm, ReplayForm, RehearseForm, Opened, opened, queried, run_outcome, replay_outcome, rehearse_outcome, seeded}
 use Rattle.dp_runner.specs.Texts.{file_text, drawn}
 use Rattle.dp_runner.proofs.CountSteps.{file-read}
 use Rattle.dp_runner.proofs.FormRuns.{form-done}
@@ -216,7 +215,7 @@ queried-complete form files source content text queries draws last h gives =
     (or_stop stop.ReadFault found)) h.queries_file
     ∙ answered-all source content (data_root content text) queries draws last h.none_over gives
 
-done-is : (one : Outcome) (bytes last : List ℕ) → one ≡ record { bytes = bytes; stop = None; last = last } → IsDone one bytes last
+pub done-is : (one : Outcome) (bytes last : List ℕ) → one ≡ record { bytes = bytes; stop = None; last = last } → IsDone one bytes last
 done-is one bytes last e = rw e (record { bytes_are = refl; stop_is = refl; last_is = refl })
 
 pub run-done : (words : List (List ℕ)) (files : Files) (source : Source) (run : SessionForm) (content : Content)

@@ -1,11 +1,12 @@
 -- The form of four words after `count`, `replay` and `rehearse`, of three after `run`, of two after `account`, of one
--- after `check`, and of any other number of words; and the form of a first word and others.
+-- after `check` and `sample`, and of any other number of words; and the form of a first word and others.
 use Rattle.std.proofs.Common.{◌≡◌, ◌≢◌, ◌≤◌, ℕ, List, [], ◌∷◌, ◌-◌, length, take, drop, map, get_or, None, refl, arith, length-drop}
 use Rattle.std.specs.Prelude.{option_and_then}
 use Rattle.std.proofs.lemmas.List.{take_all}
 use Rattle.dp_runner.specs.Account.{account_form, account_form_of}
 use Rattle.dp_runner.specs.Check.{check_form, check_form_of}
 use Rattle.dp_runner.specs.Count.{count_form, count_form_of}
+use Rattle.dp_runner.specs.Sample.{record_count_of, sample_form}
 use Rattle.dp_runner.specs.Sessions.{session_form_of, run_form, replay_form, replay_form_of, rehearse_form, rehearse_form_of}
 use Rattle.dp_runner.specs.Forms.{form_of, form_after}
 
@@ -85,6 +86,18 @@ unfolding check_form
 not_one-word bytes (w ∷ []) n = absurd (n refl)
 not_one-word bytes [] n = refl
 not_one-word bytes (w ∷ more ∷ rest) n = refl
+
+pub number-word : {W : Type 0} (bytes : W → List ℕ) (words : List W) (a : W) → length words ≡ 1 → a ≡ get_or words 0 a
+    → sample_form (map bytes words) ≡ record_count_of (bytes a)
+unfolding sample_form
+number-word bytes (w ∷ []) a n ia = rw ia refl
+number-word bytes _ a n ia = absurd (omega arith)
+
+pub not_number-word : {W : Type 0} (bytes : W → List ℕ) (words : List W) → length words ≢ 1 → sample_form (map bytes words) ≡ None
+unfolding sample_form
+not_number-word bytes (w ∷ []) n = absurd (n refl)
+not_number-word bytes [] n = refl
+not_number-word bytes (w ∷ more ∷ rest) n = refl
 
 pub two-words : {W : Type 0} (bytes : W → List ℕ) (words : List W) (a b : W) → length words ≡ 2 → a ≡ get_or words 0 a
     → b ≡ get_or words 1 b

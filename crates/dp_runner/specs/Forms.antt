@@ -10,6 +10,7 @@ use Rattle.dp_runner.specs.Account.{account_form, account_command}
 use Rattle.dp_runner.specs.Check.{check_form, check_command}
 use Rattle.dp_runner.specs.Count.{count_form, count_command}
 use Rattle.dp_runner.specs.Sessions.{run_form, run_command, replay_form, replay_command, rehearse_form, rehearse_command}
+use Rattle.dp_runner.specs.Sample.{sample_form, sample_command}
 
 -- what a command's word and the words after it say
 abbrev pub form_after : List ℕ → List (List ℕ) → Option Form
@@ -20,6 +21,7 @@ form_after command words =
     else if bytes_eq command (codes "run") then option_map form.Run (run_form words)
     else if bytes_eq command (codes "replay") then option_map form.Replay (replay_form words)
     else if bytes_eq command (codes "rehearse") then option_map form.Rehearse (rehearse_form words)
+    else if bytes_eq command (codes "sample") then option_map form.Sample (sample_form words)
     else None
 
 -- what is said of each form
@@ -30,6 +32,7 @@ command_of (form.Account words) = account_command words
 command_of (form.Run words) = run_command words
 command_of (form.Replay words) = replay_command words
 command_of (form.Rehearse words) = rehearse_command words
+command_of (form.Sample records) = sample_command records
 
 -- the form of all words
 unfoldable pub form_of : List (List ℕ) → Option Form

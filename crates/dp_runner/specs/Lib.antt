@@ -9,6 +9,8 @@ pub mod Laws
 pub mod Outcome
 pub mod Pipelines
 pub mod RunClauses
+pub mod Sample
+pub mod SampleLaw
 pub mod SessionLaws
 pub mod Sessions
 pub mod Stops

@@ -4,6 +4,7 @@ ghost use Rattle.dp_runner.specs.Forms.{form_of, form_after};
 use crate::account::{AccountForm, account_form};
 use crate::check::{CheckForm, check_form};
 use crate::count::{CountForm, count_form};
+use crate::sample::sample_form;
 use crate::sessions::{
     RehearseForm, ReplayForm, SessionForm, rehearse_form, replay_form, run_form,
 };
@@ -23,6 +24,8 @@ pub(crate) enum Form<'a> {
     Replay(ReplayForm<'a>),
     /// `rehearse P DATA QUERIES SEED`
     Rehearse(RehearseForm<'a>),
+    /// `sample N`, by the number of records, from 1 to 1,000,000
+    Sample(u32),
 }
 
 /// The form of the words, if they are of one.
@@ -46,6 +49,7 @@ fn form_after<'a>(command: &str, words: &'a [String]) -> Option<Form<'a>>
         "run" => Some(Form::Run(run_form(words)?)),
         "replay" => Some(Form::Replay(replay_form(words)?)),
         "rehearse" => Some(Form::Rehearse(rehearse_form(words)?)),
+        "sample" => Some(Form::Sample(sample_form(words)?)),
         _ => None,
     }
 }

@@ -1,5 +1,6 @@
 //! Where a run does its work. Each law is the contract of a function that does nothing.
 ghost use Rattle.dp_runner.specs.Laws.{CountLaw, CheckLaw, AccountLaw, RunLaw, ReplayLaw, RehearseLaw, RefusalLaw, LongLaw};
+ghost use Rattle.dp_runner.specs.SampleLaw.{SampleLaw};
 ghost use Rattle.dp_runner.specs.SessionLaws.{RunsOutLaw, LimitLaw, TranscriptLaw};
 
 /// Where the words are of the form of `count`, its files are there and within their limits, and its draws are enough,
@@ -37,6 +38,12 @@ pub fn replay_law()
 /// was.
 pub fn rehearse_law()
     ensures { RehearseLaw }
+{}
+
+/// Where the words are of the form of `sample`, the run writes the number of records and the transcript of its queries
+/// by draws of 0, ends with 0 and leaves the source that is handed in as it was: zeros are draws for every query.
+pub fn sample_law()
+    ensures { SampleLaw }
 {}
 
 /// A text of queries on data, by the draws of all queries taken in order: up to a query whose draws the source does not

@@ -10,6 +10,7 @@ mod form;
 pub mod laws;
 mod pipelines;
 mod run;
+mod sample;
 mod sessions;
 mod stop;
 mod texts;

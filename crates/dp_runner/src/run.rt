@@ -13,6 +13,7 @@ use crate::account::run_account;
 use crate::check::run_check;
 use crate::count::run_count;
 use crate::form::{Form, form_of};
+use crate::sample::run_sample;
 use crate::sessions::{run_rehearse, run_replay, run_session};
 use crate::stop::Stop;
 use dp_draws::Draws;
@@ -22,7 +23,7 @@ use std::alloc::Global;
 
 /// Does all that the program does, and gives the status that it ends with.
 ///
-/// `words` are the words of the command line without the program's own name. They have one of six forms, of which `run`
+/// `words` are the words of the command line without the program's own name. They have one of seven forms, of which `run`
 /// alone uses the draw source that is handed in:
 ///
 /// - `count DATA DRAWS LO HI` counts the CSV records of the file DATA and writes `answer A`, A being the geometric
@@ -34,10 +35,12 @@ use std::alloc::Global;
 ///   writes the line of each query and a last line;
 /// - `replay P DATA QUERIES DRAWS` does so by the draws in the file DRAWS;
 /// - `rehearse P DATA QUERIES SEED` writes the line `rehearsal`, just before it opens QUERIES, and does so by the draws
-///   of ChaCha20 whose key is SEED, 1 to 19 digits, as eight bytes, the lowest first, and 24 zeros.
+///   of ChaCha20 whose key is SEED, 1 to 19 digits, as eight bytes, the lowest first, and 24 zeros;
+/// - `sample N` opens no file: it makes a data text of N records, N being 1 to 7 digits that spell a number from 1 to
+///   1,000,000, writes `records N`, and answers three fixed queries on a fixed pipeline by draws of 0.
 ///
-/// Answers of `replay` and `rehearse` come from known draws and protect nobody. Of the definitions that all three
-/// follow, every accepted pipeline is private.
+/// Answers of `replay`, `rehearse` and `sample` come from known draws and protect nobody. Of the definitions that they
+/// and `run` follow, every accepted pipeline is private.
 ///
 /// | status | line on `err` | comes |
 /// |---|---|---|
@@ -197,5 +200,6 @@ fn run<S: Shelf, D: Draws, K: Sink>(
         Some(Form::Run(form)) => run_session(alloc, &form, shelf, draws, out),
         Some(Form::Replay(form)) => run_replay(alloc, &form, shelf, out),
         Some(Form::Rehearse(form)) => run_rehearse(alloc, &form, shelf, out),
+        Some(Form::Sample(records)) => run_sample(alloc, records, out),
     }
 }

@@ -316,7 +316,7 @@ pub(crate) fn run_rehearse<S: Shelf, K: Sink>(
 }
 
 /// Writes a line, which is given with its line feed.
-fn write_line<K: Sink>(out: &mut K, line: &[u8]) -> Result<(), Stop>
+pub(crate) fn write_line<K: Sink>(out: &mut K, line: &[u8]) -> Result<(), Stop>
     ensures written { OnOk result (K.held out.new ≡ appended (K.held out.old) line.now) }
     ensures front { OnErr result (AddsFront (K.held out.old) (K.held out.new) line.now) }
     ensures only { IfErr result (λ reason. reason ≡ Stop.WriteFault) }

@@ -2,6 +2,7 @@ ghost use Rattle.std.specs.Prelude.{◌≤◌};
 
 mod account;
 mod check;
+mod sample;
 mod sessions;
 
 use crate::laws::count_law;

@@ -5,6 +5,7 @@ use Rattle.dp_runner.specs.Forms.{command}
 use Rattle.dp_runner.specs.Outcome.{Source}
 use Rattle.dp_runner.proofs.FileRuns.{none-taken}
 use Rattle.dp_runner.proofs.FormRuns.{of-form, account-early, form-taken}
+use Rattle.dp_runner.proofs.SampleRuns.{few-records, kept-alone}
 use Rattle.dp_runner.proofs.SessionRuns.{never-falls}
 use Rattle.dp_runner.proofs.run.run.Goals as goal
 
@@ -48,6 +49,25 @@ returns-in-Some-Rehearse-clause-runs g c =
     let source : Source = record { step = g.D.Draws.step; state = g.D.Draws.state c.args.draws.now } in
     of-form (map string_bytes c.args.words.now) (form.Rehearse c.in-Some-Rehearse.form) source c.run_rehearse.result _ _ _ _ _ _
     (sym c.form_of.ensures ∙ c.in-Some-Rehearse.is ∙ ap Some c.in-Some-Rehearse.field-0-is) (c.run_rehearse.ensures.runs source)
+
+pub run_sample-requires : goal.run_sample-requires
+run_sample-requires g c =
+    few-records (map string_bytes c.args.words.now) c.in-Some-Sample.records
+    (sym c.form_of.ensures ∙ c.in-Some-Sample.is ∙ ap Some c.in-Some-Sample.field-0-is)
+
+pub returns-in-Some-Sample-clause-runs : goal.returns-in-Some-Sample-clause-runs
+returns-in-Some-Sample-clause-runs g c =
+    let source : Source = record { step = g.D.Draws.step; state = g.D.Draws.state c.args.draws.now } in
+    of-form (map string_bytes c.args.words.now) (form.Sample c.in-Some-Sample.records) source c.run_sample.result _ _ _ _ _ _
+    (sym c.form_of.ensures ∙ c.in-Some-Sample.is ∙ ap Some c.in-Some-Sample.field-0-is)
+    (c.run_sample.ensures.runs source _ (g.S.Shelf.faults c.args.shelf.now))
+
+pub returns-in-Some-Sample-clause-kept : goal.returns-in-Some-Sample-clause-kept
+returns-in-Some-Sample-clause-kept g c = kept-alone c.run_sample.result (g.S.Shelf.faults c.args.shelf.now)
+
+pub returns-in-Some-Sample-clause-taken : goal.returns-in-Some-Sample-clause-taken
+returns-in-Some-Sample-clause-taken g c = λ other files is.
+    none-taken g.D.Draws.step ((command (map string_bytes c.args.words.now)).shape files) (g.D.Draws.state c.args.draws.now)
 
 pub returns-in-None-clause-taken : goal.returns-in-None-clause-taken
 returns-in-None-clause-taken g c = λ other files is.

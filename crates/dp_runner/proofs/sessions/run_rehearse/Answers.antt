@@ -1,4 +1,4 @@
-use Rattle.std.proofs.Common.{ℕ, List, arith, refl, Err}
+use Rattle.std.proofs.Common.{arith, refl, Err}
 use Rattle.std.specs.Prelude.{codes}
 use Rattle.std.proofs.lemmas.Result.{err_from_is_err_and}
 use Rattle.dp_io.specs.Shelf.{Files}
