@@ -80,6 +80,22 @@ refusals='1 refused 4 construction 1
 2 refused 4 construction 2
 3 refused 4 construction 3
 end 3 spent 0'
+cp "$here/examples/town.json" town
+cp "$here/examples/town.csv" people
+cp "$here/examples/town-queries.txt" asked
+cp "$here/examples/town-draws.txt" drawn
+transcript='1 answer 104 cost 5 spent 5
+2 answer 90 cost 5 spent 10
+3 answer [41,52,53,56] cost 5 spent 15
+4 answer #0 cost 5 spent 20
+5 node cost 10 spent 30
+6 answer 44 cost 5 spent 30
+7 answer 37 cost 5 spent 30
+end 7 spent 30'
+printf '{"node":0,"ask":[["count"],["geometric",1,0,0]]}\n' >always_zero
+# The draws of one query, and all but the last of the next.
+head -n 2 drawn | head -c -2 >too_few
+{ head -n 1 asked; head -c 65537 /dev/zero | tr '\0' ' '; } >wide_asked
 { head -n 1 queries; head -c 65537 /dev/zero | tr '\0' ' '; } >wide
 head -c 1048576 /dev/zero | tr '\0' '\n' >most
 { cat most; echo; } >more
@@ -125,6 +141,30 @@ case_of 'queries on a pipeline that is refused' 3 '' 'dp: pipeline refused 6' '"
 case_of 'missing queries' 4 '' 'dp: read fault' '"$dp" account census missing'
 case_of 'a folder as queries' 4 '' 'dp: read fault' '"$dp" account census folder'
 case_of 'verdicts for an output that is full' 5 '' 'dp: write fault' '"$dp" account census queries >/dev/full'
+
+# Queries on data.
+case_of 'a replay' 0 "$transcript" '' '"$dp" replay town people asked drawn'
+case_of 'a replay of data on the standard input' 0 "$transcript" '' '"$dp" replay town - asked drawn <people'
+case_of 'a replay of queries in pieces' 0 "$transcript" '' '{ head -c 30 asked; sleep 0.1; tail -c +31 asked; } | "$dp" replay town people - drawn'
+case_of 'a replay without queries' 0 'end 0 spent 0' '' '"$dp" replay town people /dev/null drawn'
+case_of 'a replay of no records' 0 $'1 answer 0 cost 1 spent 1\nend 1 spent 1' '' '"$dp" replay town /dev/null always_zero draws'
+case_of 'a replay whose draws run out' 6 "${transcript%%$'\n'*}" 'dp: draw fault' '"$dp" replay town people asked too_few'
+case_of 'a replay of draws that are too long' 7 '' 'dp: too long' '"$dp" replay town people asked long'
+case_of 'a replay of a query line that is too long' 8 "${transcript%%$'\n'*}" 'dp: query limit' '"$dp" replay town people wide_asked drawn'
+case_of 'a replay under a pipeline that is refused' 3 '' 'dp: pipeline refused 6' '"$dp" replay cut missing missing missing'
+case_of 'a replay of missing data' 4 '' 'dp: read fault' '"$dp" replay town missing asked drawn'
+case_of 'a replay of missing queries' 4 '' 'dp: read fault' '"$dp" replay town people missing drawn'
+case_of 'a replay for an output that is full' 5 '' 'dp: write fault' '"$dp" replay town people asked drawn >/dev/full'
+case_of 'a replay for a closed output' 5 '' 'dp: write fault' '"$dp" replay town people asked drawn >&-'
+case_of 'a rehearsal, twice the same' 0 'rehearsal' '' '"$dp" rehearse town people asked 7 >one && "$dp" rehearse town people asked 7 | cmp one && head -n 1 one'
+case_of 'a rehearsal of missing queries' 4 'rehearsal' 'dp: read fault' '"$dp" rehearse town people missing 7'
+case_of 'a rehearsal by a seed that is no number' 2 '' 'dp: usage' '"$dp" rehearse town people asked x7'
+case_of 'a run' 0 $'1 answer 0 cost 1 spent 1\nend 1 spent 1' '' '"$dp" run town people always_zero'
+case_of 'a run of seven queries' 0 'end 7 spent 30' '' '"$dp" run town people asked >all; status=$?; tail -n 1 all; exit $status'
+case_of 'runs whose draws differ' 1 '' '' '"$dp" run town people asked >one && "$dp" run town people asked >other && cmp -s one other'
+case_of 'a run of two files' 2 '' 'dp: usage' '"$dp" run town people'
+case_of 'a run of missing queries' 4 '' 'dp: read fault' '"$dp" run town people missing'
+case_of 'a run for an output that is full' 5 '' 'dp: write fault' '"$dp" run town people asked >/dev/full'
 
 # Files.
 case_of 'a missing file of records' 4 '' 'dp: read fault' '"$dp" count missing draws 0 5'
