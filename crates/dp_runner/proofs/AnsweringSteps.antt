@@ -149,7 +149,7 @@ standing-more stands next answering source last start left rest old held new tur
       gained = given.2 ∙ ap (λ h. appended h text) s.gained ∙ appended-append old s.bytes text;
       whole = lines-append s.bytes text s.whole (writes.each s.past line given.0);
       taken = taken-both source.step source.before source.after last s.shape
-      (answering.slot s.past line).shape s.draws given.0 s.taken given.1;
+          (answering.slot s.past line).shape s.draws given.0 s.taken given.1;
       coming = (rw one at s.coming)
           ∙ lines-come answering (from source last) after s.past s.bytes line given.0 left rest answered.reads.first answered.rest_is
           given.1;

@@ -150,8 +150,11 @@ all-done source pipeline root lines draws last e =
     ap (λ ran. ends ran false (end_line (length (reverse lines)) (root_spent pipeline (reverse lines))))
     (ran-all source.step (line_slots (session_slot pipeline root) [] lines) source.state draws last
     (ap (take_draws source.step source.state) (shapes-same pipeline root [] lines) ∙ e))
-    ∙ ap (λ n. ends (record { bytes = concat (replies (line_slots (session_slot pipeline root) [] lines) draws); enough = true;
-    last = last }) false
+    ∙ ap (λ n. ends (record {
+      bytes = concat (replies (line_slots (session_slot pipeline root) [] lines) draws);
+      enough = true;
+      last = last;
+    }) false
     (end_line n (root_spent pipeline (reverse lines)))) (length-reverse lines)
 
 -- the draws run out
