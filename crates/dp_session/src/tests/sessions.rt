@@ -40,24 +40,24 @@ const COUNT_BELOW: &[u8] = br#"{"node":1,"ask":[["count"],["geometric",1,0,5]]}"
 const COUNT_NONE: &[u8] = br#"{"node":0,"ask":[["count"],["geometric",1,0,0]]}"#;
 
 /// The session of a pipeline's text on the records of a text.
-fn session_of(alloc: Global, pipeline: &[u8], data: &[u8]) -> Result<Session, Fail>
-    requires { length data.now ≤ 2 ^ 30 }
+fn session_of(alloc: Global, pipeline: &[u8], text: &[u8]) -> Result<Session, Fail>
+    requires { length text.now ≤ 2 ^ 30 }
     ensures { IfOk result (λ session. session.queries.answered ≡ 0) }
 {
     let pipeline = read_pipeline(alloc, pipeline)?;
     let columns = pipeline.columns().len() as u32;
-    let store = store_of(alloc, data, columns, pipeline.header())?;
+    let store = store_of(alloc, text, columns, pipeline.header())?;
     Ok(Session::over(alloc, pipeline, store)?)
 }
 
 /// The same session, made of the records as a value.
-fn session_of_value(alloc: Global, pipeline: &[u8], data: &[u8]) -> Result<Session, Fail>
-    requires { length data.now ≤ 2 ^ 30 }
+fn session_of_value(alloc: Global, pipeline: &[u8], text: &[u8]) -> Result<Session, Fail>
+    requires { length text.now ≤ 2 ^ 30 }
     ensures { IfOk result (λ session. session.queries.answered ≡ 0) }
 {
     let pipeline = read_pipeline(alloc, pipeline)?;
     let columns = pipeline.columns().len() as u32;
-    let store = store_of(alloc, data, columns, pipeline.header())?;
+    let store = store_of(alloc, text, columns, pipeline.header())?;
     let records = store.rows(alloc, &store.whole(alloc)?)?;
     Ok(Session::new(alloc, pipeline, records)?)
 }
