@@ -166,6 +166,23 @@ case_of 'a run of two files' 2 '' 'dp: usage' '"$dp" run town people'
 case_of 'a run of missing queries' 4 '' 'dp: read fault' '"$dp" run town people missing'
 case_of 'a run for an output that is full' 5 '' 'dp: write fault' '"$dp" run town people asked >/dev/full'
 
+# Records that are made.
+sampled='records 1000
+1 answer 5 cost 1 spent 1
+2 answer 49 cost 1 spent 2
+3 answer #0 cost 3 spent 5
+end 3 spent 5'
+largest='records 1000000
+1 answer 5000 cost 1 spent 1
+2 answer 49500 cost 1 spent 2
+3 answer #0 cost 3 spent 5
+end 3 spent 5'
+case_of 'a thousand records' 0 "$sampled" '' '"$dp" sample 1000'
+case_of 'a million records' 0 "$largest" '' '"$dp" sample 1000000'
+case_of 'no records' 2 '' 'dp: usage' '"$dp" sample 0'
+case_of 'more than a million records' 2 '' 'dp: usage' '"$dp" sample 1000001'
+case_of 'records for an output that is full' 5 '' 'dp: write fault' '"$dp" sample 1000 >/dev/full'
+
 # Files.
 case_of 'a missing file of records' 4 '' 'dp: read fault' '"$dp" count missing draws 0 5'
 case_of 'a missing file of draws' 4 '' 'dp: read fault' '"$dp" count data missing 0 5'
