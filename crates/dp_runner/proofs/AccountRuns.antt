@@ -1,6 +1,5 @@
 -- What a run of `account` does, from what it reads and what it answers.
-use Rattle.std.proofs.Common.{◌≡◌, ◌∙◌, ◌≤◌, ◌^◌, ℕ, false, List, [], ◌++◌, length, Option, Some, Result, Ok, refl, sym, ap, arith}
-use Rattle.dp_count.specs.Results.{◌>>=◌}
+use Rattle.std.proofs.Common.{◌≡◌, ◌∙◌, ◌^◌, ℕ, false, List, [], ◌++◌, length, Option, Some, Result, Ok, refl, ap, arith}
 use Rattle.dp_io.specs.Lines.{lines_of, has_line_over}
 use Rattle.dp_io.specs.Shelf.{Files}
 use Rattle.dp_io.proofs.TextLines.{within-all}
@@ -16,8 +15,7 @@ use Rattle.dp_runner.specs.Answering.{account_answering, file_answered}
 use Rattle.dp_runner.specs.Causes.{Runs}
 use Rattle.dp_runner.specs.Forms.{form_of, outcome}
 use Rattle.dp_runner.specs.Laws.{IsDone}
-use Rattle.dp_runner.specs.Outcome.{Source, Outcome, or_stop, once_read, by_own_draws}
-use Rattle.dp_runner.specs.Pipelines.{pipeline_at, or_refused}
+use Rattle.dp_runner.specs.Outcome.{Source, or_stop, once_read, by_own_draws}
 use Rattle.dp_runner.proofs.AccountTexts.{no_source, file-accounted}
 use Rattle.dp_runner.proofs.FormRuns.{form-done}
 use Rattle.dp_runner.proofs.PipelineSteps.{pipeline-read}

@@ -1,19 +1,18 @@
 -- An account's text of queries, as any other's that takes no draws.
-use Rattle.std.proofs.Common.{◌≡◌, ◌∙◌, ◌^◌, ℕ, Bool, true, false, List, [], ◌∷◌, ◌++◌, length, Option, Some, None, refl, sym, ap}
+use Rattle.std.proofs.Common.{◌≡◌, ◌∙◌, ◌^◌, ℕ, Bool, true, false, List, [], ◌∷◌, ◌++◌, length, Option, Some, None, refl, ap}
 use Rattle.std.specs.Prelude.{reverse, if◌then◌else◌}
 use Rattle.std.proofs.lemmas.List.{length-reverse}
 use Rattle.dp_draws.specs.Taking.{Turn, take_draws}
 use Rattle.dp_draws.specs.Sources.{no_step}
 use Rattle.dp_io.specs.Lines.{lines_within, has_line_over}
-use Rattle.dp_io.specs.Shelf.{Files}
 use Rattle.dp_pipeline.specs.declared.content.Content.{Content}
 use Rattle.dp_session.specs.QueryLines.{account_line, account_lines, end_line}
-use Rattle.dp_session.specs.SessionLines.{Ran, preceded, account_slot, line_slots, run_slots}
+use Rattle.dp_session.specs.SessionLines.{preceded, account_slot, line_slots, run_slots}
 use Rattle.dp_session.specs.Verdicts.{root_spent}
 use Rattle.dp_runner.specs.declared.stop.Stop.TheVariants as stop
 use Rattle.dp_runner.specs.Account.{accounted}
-use Rattle.dp_runner.specs.Answering.{ends, answered, account_answering, file_answered}
-use Rattle.dp_runner.specs.Outcome.{Source, Outcome, source_at, or_stop, once_read, by_own_draws}
+use Rattle.dp_runner.specs.Answering.{ends, answered, account_answering}
+use Rattle.dp_runner.specs.Outcome.{Source, source_at, or_stop, once_read, by_own_draws}
 
 -- the source of an account, from which no draw is taken
 abbrev pub no_source : Source

@@ -16,9 +16,9 @@ use Rattle.dp_runner.specs.declared.stop.Stop.TheVariants as stop
 use Rattle.dp_runner.specs.Answering.{Answering, answered, answered_shape}
 use Rattle.dp_runner.specs.Outcome.{source_at}
 use Rattle.dp_runner.specs.Stops.{stop_of_line}
-use Rattle.dp_runner.specs.Turns.{WritesLines, IsFirst, Reads, Answered, Nothing, Turns, Ends, RunsTo}
+use Rattle.dp_runner.specs.Turns.{WritesLines, IsFirst, Answered, Nothing, Turns, Ends, RunsTo}
 use Rattle.dp_runner.proofs.AnsweringTexts.{shape_to_come, shape-line, answered_shape-is}
-use Rattle.dp_runner.proofs.AnsweringSteps.{Standing, from, through, taken-both, ends-early, ends-long, ends-over, ends-failed, ends-done, ends-cut, ends-broken}
+use Rattle.dp_runner.proofs.AnsweringSteps.{Standing, from, taken-both, ends-early, ends-long, ends-failed, ends-done, ends-cut, ends-broken}
 
 -- ---- how a run ends
 

@@ -1,28 +1,21 @@
 -- Where what answers query lines stands between two turns, and how a run of it ends.
-use Rattle.std.proofs.Common.{◌≡◌, ◌≢◌, ◌∙◌, ◌+◌, ◌<◌, ◌≤◌, ◌^◌, ℕ, suc, Bool, true, false, nat_lt, List, [], ◌∷◌, ◌++◌, length, Option, Some, None, option_map, Result, Ok, Err, refl, sym, ap, arith, append_assoc, append-nil, subst}
+use Rattle.std.proofs.Common.{◌≡◌, ◌∙◌, ◌+◌, ◌<◌, ◌≤◌, ◌^◌, ℕ, suc, true, List, [], ◌∷◌, ◌++◌, length, Option, Some, None, option_map, Ok, Err, refl, sym, ap, arith, append_assoc, append-nil, subst}
 use Rattle.std.specs.Option.{ForSome}
-use Rattle.std.proofs.lemmas.Bool.Decides.{nat_tests}
-use Rattle.std.proofs.lemmas.List.{nil_from_length}
-use Rattle.dp_count.specs.Faults.{Rose}
 use Rattle.dp_draws.specs.Taking.{Turn, take_draws}
 use Rattle.dp_draws.proofs.Taking.{joining, take_draws-none, take_draws-append}
-use Rattle.dp_io.specs.declared.faults.LineFault.{LineFault}
-use Rattle.dp_io.specs.declared.faults.LineFault.TheVariants as line_fault
 use Rattle.dp_io.specs.Lines.{first_line, after_first_line}
 use Rattle.dp_io.specs.Sink.{appended, AddsFront}
 use Rattle.dp_io.proofs.Pieces.{appended-append}
-use Rattle.dp_law.specs.Releasing.{TakesFront}
 use Rattle.dp_session.specs.Sessions.{Drawing, Gives}
 use Rattle.dp_runner.specs.declared.stop.Stop.{Stop}
 use Rattle.dp_runner.specs.declared.stop.Stop.TheVariants as stop
-use Rattle.dp_runner.specs.Answering.{Answering, answered, answered_shape}
+use Rattle.dp_runner.specs.Answering.{Answering, answered}
 use Rattle.dp_runner.specs.Causes.{HasDone}
 use Rattle.dp_runner.specs.Outcome.{Outcome, source_at, preceded_by}
-use Rattle.dp_runner.specs.Stops.{stop_of_line}
-use Rattle.dp_runner.specs.Turns.{WritesLines, AnswersSlot, IsFirst, Reads, Answered, Nothing, Turns, Ends, RunsTo}
+use Rattle.dp_runner.specs.Turns.{WritesLines, AnswersSlot, IsFirst, Reads, Answered}
 use Rattle.dp_runner.specs.WrittenLines.{are_lines, AddsLines}
 use Rattle.dp_runner.specs.WrittenLinesProof.{lines-append}
-use Rattle.dp_runner.proofs.AnsweringTexts.{to_come, shape_to_come, to_come-line, to_come-fails, to_come-none, to_come-long, to_come-zero, answered-is, shape-line, answered_shape-is}
+use Rattle.dp_runner.proofs.AnsweringTexts.{to_come, shape_to_come, to_come-line, to_come-fails, to_come-none, to_come-long, to_come-zero, answered-is, shape-line}
 use Rattle.dp_runner.proofs.WritesLast.{nothing-gained}
 
 -- what answers stands at the lines so far, of which all were written by the draws that were taken; what is to come at the
@@ -156,7 +149,7 @@ standing-more stands next answering source last start left rest old held new tur
       gained = given.2 ∙ ap (λ h. appended h text) s.gained ∙ appended-append old s.bytes text;
       whole = lines-append s.bytes text s.whole (writes.each s.past line given.0);
       taken = taken-both source.step source.before source.after last s.shape
-      (answering.slot s.past line).shape s.draws given.0 s.taken given.1;
+          (answering.slot s.past line).shape s.draws given.0 s.taken given.1;
       coming = (rw one at s.coming)
           ∙ lines-come answering (from source last) after s.past s.bytes line given.0 left rest answered.reads.first answered.rest_is
           given.1;

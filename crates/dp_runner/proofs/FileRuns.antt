@@ -1,5 +1,5 @@
 -- What a run does that answers the queries of a file.
-use Rattle.std.proofs.Common.{◌≡◌, ◌∙◌, ◌≤◌, ◌⊎◌, ℕ, false, List, [], ◌++◌, Option, Some, None, IsSome, option_map, Result, Ok, Err, refl, sym, ap, inl, inr, subst, ⊎_elim}
+use Rattle.std.proofs.Common.{◌≡◌, ◌∙◌, ◌≤◌, ◌⊎◌, ℕ, false, List, [], Option, Some, None, IsSome, option_map, Result, Ok, Err, refl, sym, ap, inl, inr, subst, ⊎_elim}
 use Rattle.std.specs.Option.{ForSome, unwrap_or}
 use Rattle.dp_count.specs.Faults.{Rose}
 use Rattle.dp_draws.specs.Taking.{Turn}

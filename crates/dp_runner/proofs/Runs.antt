@@ -1,7 +1,6 @@
 -- Runs of parts that make a run: what is read before, what is written before, a draw source of its own.
-use Rattle.std.proofs.Common.{◌≡◌, ◌∙◌, ◌≤◌, ℕ, true, List, [], ◌++◌, Option, Some, None, Result, Ok, Err, refl, sym, ap, inl, inr, subst, append_assoc}
+use Rattle.std.proofs.Common.{◌≡◌, ◌∙◌, ◌≤◌, ℕ, true, List, ◌++◌, Option, Some, None, Result, Ok, Err, refl, sym, ap, inl, inr, subst, append_assoc}
 use Rattle.std.specs.Option.{ForSome}
-use Rattle.dp_count.specs.Faults.{Rose}
 use Rattle.dp_io.specs.Shelf.{Files}
 use Rattle.dp_io.specs.Sink.{appended, AddsFront}
 use Rattle.dp_io.proofs.Pieces.{appended-append}

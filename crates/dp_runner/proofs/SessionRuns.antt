@@ -1,5 +1,5 @@
 -- What a run that answers queries on data reads, and the draws that it takes.
-use Rattle.std.proofs.Common.{◌≡◌, ◌≢◌, ◌∙◌, ◌<◌, ◌≤◌, ◌^◌, ℕ, List, Option, Some, Result, Ok, Err, refl, sym, ap, arith, subst}
+use Rattle.std.proofs.Common.{◌≡◌, ◌≢◌, ◌∙◌, ◌<◌, ◌≤◌, ◌^◌, ℕ, List, Option, Result, Ok, Err, refl, sym, ap, arith, subst}
 use Rattle.std.specs.Option.{ForSome}
 use Rattle.dp_count.specs.Faults.{Rose}
 use Rattle.dp_draws.specs.Taking.{Turn}

@@ -4,7 +4,6 @@ use Rattle.std.specs.Prelude.{reverse, codes}
 use mathlib.Core.List.{reverse_aux}
 use Rattle.std.specs.List.{concat}
 use Rattle.std.proofs.lemmas.List.{length-reverse, take-append-le, take_all, drop-append-le, drop_all}
-use Rattle.dp_count.specs.Results.{◌>>=◌}
 use Rattle.dp_count.specs.Slots.{Slot, joined_shape, replies}
 use Rattle.dp_domain.specs.declared.values.Value.{Value}
 use Rattle.dp_draws.specs.Numbers.{drawn_numbers}
@@ -27,7 +26,7 @@ use Rattle.dp_runner.specs.Forms.{form_of, outcome}
 use Rattle.dp_runner.specs.Laws.{IsDone, HasFiles, GivesAll, data_root}
 use Rattle.dp_runner.specs.Outcome.{Source, Outcome, source_at, or_stop, once_read, preceded_by, by_own_draws}
 use Rattle.dp_runner.specs.SessionLaws.{session_lines}
-use Rattle.dp_runner.specs.Sessions.{SessionForm, ReplayForm, RehearseForm, Opened, opened, file_records, queried, run_outcome, replay_outcome, rehearse_outcome, seeded}
+use Rattle.dp_runner.specs.Sessions.{SessionForm, ReplayForm, RehearseForm, Opened, opened, queried, run_outcome, replay_outcome, rehearse_outcome, seeded}
 use Rattle.dp_runner.specs.Texts.{file_text, drawn}
 use Rattle.dp_runner.proofs.CountSteps.{file-read}
 use Rattle.dp_runner.proofs.FormRuns.{form-done}
@@ -151,8 +150,11 @@ all-done source pipeline root lines draws last e =
     ap (λ ran. ends ran false (end_line (length (reverse lines)) (root_spent pipeline (reverse lines))))
     (ran-all source.step (line_slots (session_slot pipeline root) [] lines) source.state draws last
     (ap (take_draws source.step source.state) (shapes-same pipeline root [] lines) ∙ e))
-    ∙ ap (λ n. ends (record { bytes = concat (replies (line_slots (session_slot pipeline root) [] lines) draws); enough = true;
-    last = last }) false
+    ∙ ap (λ n. ends (record {
+      bytes = concat (replies (line_slots (session_slot pipeline root) [] lines) draws);
+      enough = true;
+      last = last;
+    }) false
     (end_line n (root_spent pipeline (reverse lines)))) (length-reverse lines)
 
 -- the draws run out

@@ -1,5 +1,5 @@
 -- What an account and a session write of a text of queries are whole lines: each ends with a line feed.
-use Rattle.std.proofs.Common.{◌≡◌, ℕ, true, List, [], ◌++◌, Result, Ok, Err, refl}
+use Rattle.std.proofs.Common.{◌≡◌, ℕ, true, List, [], Result, Ok, Err, refl}
 use Rattle.std.specs.Prelude.{codes}
 use Rattle.std.specs.Fmt as fmt
 use Rattle.dp_domain.specs.declared.values.Value.{Value}

@@ -7,7 +7,6 @@ use Rattle.dp_runner.specs.Account.{accounted, account_outcome}
 use Rattle.dp_runner.specs.Outcome.{or_stop, once_read}
 use Rattle.dp_runner.specs.Pipelines.{pipeline_at}
 use Rattle.dp_runner.proofs.AccountRuns.{runs-accounted}
-use Rattle.dp_runner.proofs.AnswererSteps.{account-own}
 use Rattle.dp_runner.proofs.Runs.{runs-unread, runs-after}
 use Rattle.dp_runner.proofs.WritesLast.{lines-none}
 use Rattle.dp_runner.proofs.account.run_account.Goals as goal

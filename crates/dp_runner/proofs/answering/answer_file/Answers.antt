@@ -1,4 +1,4 @@
-use Rattle.std.proofs.Common.{◌∙◌, arith, ap, sym, subst, option_map, Err}
+use Rattle.std.proofs.Common.{arith, ap, sym, subst, option_map, Err}
 use Rattle.std.proofs.lemmas.Result.{err_from_is_err_and}
 use Rattle.dp_io.specs.Lines.{LinesValue, remaining}
 use Rattle.dp_io.specs.Shelf.{Files, StartsFile}

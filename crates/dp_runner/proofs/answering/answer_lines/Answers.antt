@@ -1,6 +1,5 @@
 use Rattle.std.proofs.Common.{◌∙◌, ◌-◌, ◌+◌, ◌^◌, arith, ap, Err, refl}
 use Rattle.std.proofs.lemmas.Result.{err_from_is_err_and}
-use Rattle.dp_io.specs.Lines.{remaining}
 use Rattle.dp_runner.proofs.AnsweringSteps.{standing-none, standing-more, ends-over}
 use Rattle.dp_runner.proofs.AnsweringEnds.{turn-none, turn-some, turn-ends, next-ends, end-ends, more-some, more-none, turn-taken, taken-so_far}
 use Rattle.dp_runner.proofs.answering.answer_lines.Goals as goal

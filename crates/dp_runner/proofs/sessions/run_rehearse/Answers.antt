@@ -1,4 +1,4 @@
-use Rattle.std.proofs.Common.{ℕ, List, arith, refl, Err}
+use Rattle.std.proofs.Common.{arith, refl, Err}
 use Rattle.std.specs.Prelude.{codes}
 use Rattle.std.proofs.lemmas.Result.{err_from_is_err_and}
 use Rattle.dp_io.specs.Shelf.{Files}
@@ -50,6 +50,12 @@ returns-clause-runs g c = λ source.
     (runs-preceded c.answer_file.result (codes "rehearsal\n") (g.S.Shelf.files c.args.shelf.now)
     (λ files. queried form.session files (seeded form.seed) (opened_by c.in_ok-session.session)) _ _ _ _ _ _
     c.in_ok-write_line.ensures.written refl
-    (rw (c.in_ok-session.ensures.same_files, c.queries_name.ensures, c.session-words.ensures, c.new-draws.ensures.state,
-    c.seed_bytes.ensures, c.seed.ensures)
+    (rw (
+      c.in_ok-session.ensures.same_files,
+      c.queries_name.ensures,
+      c.session-words.ensures,
+      c.new-draws.ensures.state,
+      c.seed_bytes.ensures,
+      c.seed.ensures,
+    )
     at c.answer_file.ensures.runs)))
