@@ -50,18 +50,6 @@ fn session_of(alloc: Global, pipeline: &[u8], text: &[u8]) -> Result<Session, Fa
     Ok(Session::over(alloc, pipeline, store)?)
 }
 
-/// The same session, made of the records as a value.
-fn session_of_value(alloc: Global, pipeline: &[u8], text: &[u8]) -> Result<Session, Fail>
-    requires { length text.now ≤ 2 ^ 30 }
-    ensures { IfOk result (λ session. session.queries.answered ≡ 0) }
-{
-    let pipeline = read_pipeline(alloc, pipeline)?;
-    let columns = pipeline.columns().len() as u32;
-    let store = store_of(alloc, text, columns, pipeline.header())?;
-    let records = store.rows(alloc, &store.whole(alloc)?)?;
-    Ok(Session::new(alloc, pipeline, records)?)
-}
-
 /// An output of at most 1,000 bytes that never fails.
 fn output(alloc: Global) -> Result<MemSink, Fail> {
     Ok(MemSink::new(alloc, 1000, Vec::new(alloc), 1000)?)
@@ -125,76 +113,6 @@ fn written_of(alloc: Global, session: Session, lines: [&[u8]; 3]) -> Result<Vec<
     answer_three(alloc, &mut session, lines, &mut out)?;
     session.end(&mut out)?;
     Ok(Vec::from_slice(alloc, out.held())?)
-}
-
-/// The numbers of the records that are held of a node.
-fn held(alloc: Global, session: &Session, node: u64) -> Result<Option<Vec<u32>>, Fail> {
-    let Some(selection) = session.selection(node) else {
-        return Ok(None);
-    };
-    let mut numbers = Vec::new(alloc);
-    for k in 0..selection.len() {
-        numbers.push(selection.at(k))?;
-    }
-    Ok(Some(numbers))
-}
-
-/// That these records are held of a node.
-fn holds(
-    rt: &(impl Abort + AllocGlobal),
-    session: &Session,
-    node: u64,
-    wanted: &[u32],
-) -> Result<(), Fail> {
-    let Some(numbers) = held(rt.alloc(), session, node)? else {
-        panic!(rt; "no selection");
-    };
-    assert_eq!(rt; numbers.as_slice(), wanted);
-    Ok(())
-}
-
-#[test]
-fn a_selection_is_held_of_each_node_of_records_that_is_not_frozen(
-    rt: HostRuntime,
-) -> Result<(), Fail> {
-    let alloc = rt.alloc();
-    let mut session = session_of(alloc, ODOMETER, PERSONS)?;
-    let mut out = output(alloc)?;
-    answer(alloc, &mut session, OPEN_WOMEN, &mut Zeros::new(), &mut out)?;
-    holds(&rt, &session, 0, &[0, 1, 2])?;
-    holds(&rt, &session, 1, &[0, 2])?;
-    assert!(rt; session.selection(5).is_none());
-    let number = br#"{"node":0,"open":[["count"]],"distance":1,"budget":["filter",1]}"#.as_slice();
-    answer(alloc, &mut session, number, &mut Zeros::new(), &mut out)?;
-    holds(&rt, &session, 0, &[0, 1, 2])?;
-    assert!(rt; session.selection(1).is_none());
-    assert!(rt; session.selection(2).is_none());
-    session.end(&mut out)?;
-    assert!(rt; session.selection(0).is_none());
-    assert_eq!(rt;
-        out.held(),
-        b"1 node cost 1 spent 1\n2 node cost 1 spent 2\nend 2 spent 2\n".as_slice()
-    );
-    Ok(())
-}
-
-#[test]
-fn a_value_of_records_and_a_store_of_their_text_give_the_same_lines(
-    rt: HostRuntime,
-) -> Result<(), Fail> {
-    let alloc = rt.alloc();
-    let lines = [OPEN_WOMEN, COUNT_BELOW, COUNT];
-    let wanted = b"1 node cost 1 spent 1
-2 answer 2 cost 1 spent 1
-3 answer 3 cost 1 spent 2
-end 3 spent 2
-"
-        .as_slice();
-    let of_store = session_of(alloc, ODOMETER, PERSONS)?;
-    assert_eq!(rt; written_of(alloc, of_store, lines)?.as_slice(), wanted);
-    let of_value = session_of_value(alloc, ODOMETER, PERSONS)?;
-    assert_eq!(rt; written_of(alloc, of_value, lines)?.as_slice(), wanted);
-    Ok(())
 }
 
 /// A pipeline of three columns with a plan.
@@ -286,23 +204,6 @@ fn a_draw_fault_ends_a_session_and_writes_nothing(rt: HostRuntime) -> Result<(),
     runs_out(&rt, &mut Replay::new(five))
 }
 
-#[test]
-fn a_write_fault_ends_a_session_and_leaves_a_front_of_the_line(
-    rt: HostRuntime,
-) -> Result<(), Fail> {
-    let alloc = rt.alloc();
-    let mut session = session_of(alloc, ODOMETER, PERSONS)?;
-    let mut out = MemSink::new(alloc, 4, vec![in alloc; 2]?, 1000)?;
-    let mut draws = Zeros::new();
-    let first = answer(alloc, &mut session, COUNT, &mut draws, &mut out);
-    assert_eq!(rt; first, Err(SessionFault::WriteFault));
-    let second = answer(alloc, &mut session, COUNT, &mut draws, &mut out);
-    assert_eq!(rt; second, Err(SessionFault::Ended));
-    assert_eq!(rt; session.end(&mut out), Err(EndFault::Ended));
-    assert_eq!(rt; out.held(), b"1 an".as_slice());
-    Ok(())
-}
-
 /// A pipeline whose first column names a person, with a plan of at most two records of each.
 const PERSON: &[u8] = br#"{"version":1,"columns":["id","item"],"header":false,"user":"id",
 "ratio":[1,2],"distance":1,"root":["odometer"],
@@ -311,38 +212,29 @@ const PERSON: &[u8] = br#"{"version":1,"columns":["id","item"],"header":false,"u
 /// The records of two persons.
 const ITEMS: &[u8] = b"a,x\nb,y\na,w\na,x\nb,y\n";
 
+const TWO_OF_EACH: &[u8] = br#"{"node":0,"ask":"p"}"#;
+
 const TRUNCATED_TO_NONE: &[u8] =
     br#"{"node":0,"ask":[["truncate",0],["count"],["geometric",1,0,5]]}"#;
 
 const TRUNCATED_TO_ONE: &[u8] = br#"{"node":0,"ask":[["filter","item","y"],["truncate",1],
 ["count"],["geometric",1,0,5]]}"#;
 
-/// A child of at most two records of each person.
-const OPEN_TWO: &[u8] = br#"{"node":0,"open":[["truncate",2]],"distance":4,"budget":["filter",1]}"#;
-
 #[test]
 fn queries_where_a_person_is_the_unit(rt: HostRuntime) -> Result<(), Fail> {
     let alloc = rt.alloc();
-    let mut session = session_of(alloc, PERSON, ITEMS)?;
-    let mut out = output(alloc)?;
-    let plan = br#"{"node":0,"ask":"p"}"#.as_slice();
-    let lines = [plan, COUNT, TRUNCATED_TO_NONE];
-    answer_three(alloc, &mut session, lines, &mut out)?;
-    answer(
-        alloc,
-        &mut session,
-        TRUNCATED_TO_ONE,
-        &mut Zeros::new(),
-        &mut out,
-    )?;
-    session.end(&mut out)?;
+    let session = session_of(alloc, PERSON, ITEMS)?;
     assert_eq!(rt;
-        out.held(),
+        written_of(
+            alloc,
+            session,
+            [TWO_OF_EACH, TRUNCATED_TO_NONE, TRUNCATED_TO_ONE]
+        )?
+        .as_slice(),
         b"1 answer 4 cost 4 spent 4
-2 refused 4 construction 2
-3 refused 4 construction 3
-4 answer 1 cost 2 spent 6
-end 4 spent 6
+2 refused 4 construction 3
+3 answer 1 cost 2 spent 6
+end 3 spent 6
 "
             .as_slice()
     );
@@ -350,57 +242,15 @@ end 4 spent 6
 }
 
 #[test]
-fn the_least_records_of_each_person_are_kept(rt: HostRuntime) -> Result<(), Fail> {
+fn a_child_stays_open_beside_later_queries_where_siblings_do(rt: HostRuntime) -> Result<(), Fail> {
     let alloc = rt.alloc();
-    let mut session = session_of(alloc, PERSON, ITEMS)?;
-    let mut out = output(alloc)?;
-    answer(alloc, &mut session, OPEN_TWO, &mut Zeros::new(), &mut out)?;
-    holds(&rt, &session, 1, &[0, 1, 2, 4])
-}
-
-/// What a session writes of queries at nodes below each other.
-fn written_below(alloc: Global, pipeline: &[u8]) -> Result<Vec<u8>, Fail> {
-    let mut session = session_of(alloc, pipeline, PERSONS)?;
-    let mut out = output(alloc)?;
-    let opens = [
-        br#"{"node":0,"open":[],"distance":1,"budget":["filter",4]}"#.as_slice(),
-        br#"{"node":1,"open":[],"distance":1,"budget":["filter",2]}"#.as_slice(),
-        COUNT_NONE,
-    ];
-    let asks = [
-        br#"{"node":2,"ask":[["count"],["geometric",1,0,0]]}"#.as_slice(),
-        br#"{"node":1,"ask":[["count"],["geometric",1,0,0]]}"#.as_slice(),
-        br#"{"node":9,"ask":[["count"],["geometric",1,0,0]]}"#.as_slice(),
-    ];
-    answer_three(alloc, &mut session, opens, &mut out)?;
-    answer_three(alloc, &mut session, asks, &mut out)?;
-    session.end(&mut out)?;
-    Ok(Vec::from_slice(alloc, out.held())?)
-}
-
-#[test]
-fn nodes_below_a_query_are_frozen_unless_siblings_stay_open(rt: HostRuntime) -> Result<(), Fail> {
+    let session = session_of(alloc, OPEN_SIBLINGS, PERSONS)?;
     assert_eq!(rt;
-        written_below(rt.alloc(), OPEN_SIBLINGS)?.as_slice(),
-        b"1 node cost 4 spent 4
-2 node cost 2 spent 4
-3 answer 0 cost 1 spent 5
-4 answer 0 cost 1 spent 5
-5 answer 0 cost 1 spent 5
-6 refused 2 no-node
-end 6 spent 5
-"
-            .as_slice()
-    );
-    assert_eq!(rt;
-        written_below(rt.alloc(), FROZEN_SIBLINGS)?.as_slice(),
-        b"1 node cost 4 spent 4
-2 node cost 2 spent 4
-3 answer 0 cost 1 spent 5
-4 refused 3 frozen 0 3
-5 refused 3 frozen 0 3
-6 refused 2 no-node
-end 6 spent 5
+        written_of(alloc, session, [OPEN_WOMEN, COUNT_NONE, COUNT_BELOW])?.as_slice(),
+        b"1 node cost 1 spent 1
+2 answer 0 cost 1 spent 2
+3 answer 2 cost 1 spent 2
+end 3 spent 2
 "
             .as_slice()
     );
@@ -408,17 +258,17 @@ end 6 spent 5
 }
 
 #[test]
-fn siblings_that_stay_open_are_both_held(rt: HostRuntime) -> Result<(), Fail> {
+fn a_child_is_frozen_by_a_later_query_where_siblings_are(rt: HostRuntime) -> Result<(), Fail> {
     let alloc = rt.alloc();
-    let mut session = session_of(alloc, OPEN_SIBLINGS, PERSONS)?;
-    let mut out = output(alloc)?;
-    let lines = [OPEN_WOMEN, OPEN_WOMEN, COUNT_BELOW];
-    answer_three(alloc, &mut session, lines, &mut out)?;
-    holds(&rt, &session, 1, &[0, 2])?;
-    holds(&rt, &session, 2, &[0, 2])?;
+    let session = session_of(alloc, FROZEN_SIBLINGS, PERSONS)?;
     assert_eq!(rt;
-        out.held(),
-        b"1 node cost 1 spent 1\n2 node cost 1 spent 2\n3 answer 2 cost 1 spent 2\n".as_slice()
+        written_of(alloc, session, [OPEN_WOMEN, COUNT_NONE, COUNT_BELOW])?.as_slice(),
+        b"1 node cost 1 spent 1
+2 answer 0 cost 1 spent 2
+3 refused 3 frozen 0 2
+end 3 spent 2
+"
+            .as_slice()
     );
     Ok(())
 }
