@@ -3,6 +3,9 @@
 # Needs cargo, python3 and GNU time, and Debian's package librust-csv-dev for the loop. It is no part of the gate.
 set -eu
 here=$(cd "$(dirname "$0")/.." && pwd)
+# The launcher builds the program where it is not built or is older than a source; what is timed is the program itself.
+"$here/dp" >/dev/null 2>&1 || true
+dp=$here/crates/dp/out/dp
 work=$(mktemp -d)
 trap 'rm -rf "$work"' EXIT
 
@@ -57,6 +60,6 @@ RUST
 (cd "$work/plain" && cargo build --release --offline --quiet)
 
 for _ in 1 2 3; do
-    /usr/bin/time -f "dp count    %e s, %M KB" "$here/dp" count "$work/big.csv" "$work/draws.txt" 0 20
+    /usr/bin/time -f "dp count    %e s, %M KB" "$dp" count "$work/big.csv" "$work/draws.txt" 0 20
     /usr/bin/time -f "plain loop  %e s, %M KB" "$work/plain/target/release/plain" "$work/big.csv"
 done
