@@ -33,7 +33,8 @@ product_of_ways same (slot ∷ slots) [] = 0
 product_of_ways same (slot ∷ slots) (reply ∷ wanted) = slot_ways same slot reply * product_of_ways same slots wanted
 
 -- two lists of as many slots: at each place, every reply's two numbers keep the ratio at the exponent there
-unfoldable pub SlotsKeepRatios : {R : Type 0} → (R → R → Bool) → ℕ → ℕ → List ℕ → List (Slot R) → List (Slot R) → Type 0
+unfoldable pub SlotsKeepRatios : {R : Type 0} → (R → R → Bool) → ℕ → ℕ → List ℕ → List (Slot R) → List (Slot R)
+    → Type 0
 SlotsKeepRatios same p q [] [] [] = Unit {0}
 SlotsKeepRatios same p q (k ∷ ks) (slot ∷ slots) (other ∷ others) =
     ((reply : _) → KeepsRatio p q k (slot_ways same slot reply) (slot_ways same other reply))
