@@ -77,7 +77,8 @@ impl Lines {
     /// Reads the next line, and answers false where nothing remains. Takes no memory.
     ///
     /// `TooLong` comes exactly where the line has more than 65,536 bytes and no read failed. `Failed` comes
-    /// only where the shelf's count of faults rose. After either the same text remains as before the call.
+    /// only where the shelf's count of faults rose. After either the same text remains as before the call,
+    /// and after `Failed` every whole line that was read has been given.
     pub fn next<S: Shelf>(&mut self, shelf: &mut S) -> Result<bool, LineFault>
         requires { self.old.slot < S.slots shelf.old }
         ensures more { IfOk result (λ more.
@@ -98,6 +99,7 @@ impl Lines {
             → 65536 < length (first_line self.new.read_ahead) }
         ensures kept { OnErr result (remaining self.new (S.left shelf.new self.old.slot)
             ≡ remaining self.old (S.left shelf.old self.old.slot)) }
+        ensures failed_ahead { result ≡ Err LineFault.Failed → needs_read self.new ≡ true }
         ensures same_slot { self.new.slot ≡ self.old.slot }
         ensures end { self.new.at_end ≡ true
             → ((self.old.at_end ≡ true) ⊎ IsEmptied (S.left shelf.new self.old.slot)) }

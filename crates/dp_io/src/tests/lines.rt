@@ -166,3 +166,18 @@ fn no_read_while_a_line_feed_is_kept_or_after_the_end(rt: HostRuntime) -> Result
     assert_eq!(rt; shelf.failed(), 1);
     Ok(())
 }
+
+#[test]
+fn whole_lines_before_a_read_that_fails_are_given(rt: HostRuntime) -> Result<(), Fail> {
+    let alloc = rt.alloc();
+    let fails = vec![in alloc; 4]?;
+    let (mut shelf, mut lines) = reader_of(alloc, b"a\n\nbc\nde\n", 4, fails)?;
+    assert!(rt; is_next(&mut shelf, &mut lines, Ok(Some(b"a"))));
+    assert!(rt; is_next(&mut shelf, &mut lines, Ok(Some(b""))));
+    assert!(rt; is_next(&mut shelf, &mut lines, Ok(Some(b"bc"))));
+    assert!(rt; is_next(&mut shelf, &mut lines, Err(LineFault::Failed)));
+    assert!(rt; is_next(&mut shelf, &mut lines, Ok(Some(b"de"))));
+    assert!(rt; is_next(&mut shelf, &mut lines, Ok(None)));
+    assert_eq!(rt; shelf.failed(), 1);
+    Ok(())
+}

@@ -58,3 +58,9 @@ returns-in_err-read_ahead-clause-no_read g c none =
     let needed = needs_read-unknown c.pieces.self unknown in
     let not_needed = (c.pieces.invariant.no_read none).1 in
     absurd (cc)
+
+pub returns-in_err-read_ahead-clause-failed_ahead : goal.returns-in_err-read_ahead-clause-failed_ahead
+returns-in_err-read_ahead-clause-failed_ahead g c _ =
+    let unknown : is_first_known c.pieces.self ≡ false = rw (c.first_line_end-end.ensures.same, c.first_line_end-end.ensures.place) at (sym c.if-is_line_end.ensures) in
+    let needed = needs_read-unknown c.pieces.self unknown in
+    search (rules, needed)
