@@ -4,6 +4,7 @@ pub mod MeasuredLines
 pub mod NoiseInputs
 pub mod ReleaseMaking
 pub mod ReleaseSteps
+pub mod SmallReleases
 pub mod StageInputs
 pub mod StageLaws
 pub mod ZeroLoss
