@@ -2,8 +2,10 @@ pub mod LineSteps
 pub mod Making
 pub mod MeasuredLines
 pub mod NoiseInputs
+pub mod OneMore
 pub mod ReleaseMaking
 pub mod ReleaseSteps
+pub mod SmallReleases
 pub mod StageInputs
 pub mod StageLaws
 pub mod ZeroLoss

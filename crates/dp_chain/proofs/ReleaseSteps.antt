@@ -4,7 +4,6 @@ use Rattle.std.specs.Prelude.{Result, option_map}
 use Rattle.dp_draws.specs.Taking.{Turn, Taken}
 use Rattle.dp_draws.proofs.Taking.{take_draws-none}
 use Rattle.dp_domain.specs.declared.values.Value.{Value}
-use Rattle.dp_domain.specs.Domains.{Has}
 use Rattle.dp_law.specs.declared.pieces.Piece.{Piece}
 use Rattle.dp_law.specs.declared.faults.ReleaseFault.{ReleaseFault}
 use Rattle.dp_law.specs.Mechanism.{Mechanism}
@@ -30,11 +29,11 @@ shape-nil : joined_shape [] ≡ []
 unfolding joined_shape
 shape-nil = refl
 
-pieces-cons : (first : Mechanism) (rest : List Mechanism) → all_pieces (first ∷ rest) ≡ first.pieces + all_pieces rest
+pub pieces-cons : (first : Mechanism) (rest : List Mechanism) → all_pieces (first ∷ rest) ≡ first.pieces + all_pieces rest
 unfolding all_pieces
 pieces-cons first rest = refl
 
-pieces-nil : all_pieces [] ≡ 0
+pub pieces-nil : all_pieces [] ≡ 0
 unfolding all_pieces
 pieces-nil = refl
 

@@ -5,7 +5,6 @@ use Rattle.dp_num.specs.Limits.{Fraction}
 use Rattle.dp_domain.specs.declared.domains.Domain.{Domain}
 use Rattle.dp_domain.specs.declared.metrics.Metric.{Metric}
 use Rattle.dp_domain.specs.declared.values.Value.{Value}
-use Rattle.dp_domain.specs.Domains.{Has}
 use Rattle.dp_law.specs.declared.pieces.Piece.{Piece}
 use Rattle.dp_law.specs.declared.refusals.Refused.{Refused}
 use Rattle.dp_law.specs.Mechanism.{Mechanism}

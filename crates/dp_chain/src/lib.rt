@@ -24,7 +24,7 @@ pub use input::Input;
 pub use line::Line;
 pub use measured::Measured;
 pub use noise::{Noise, Part, ReleaseSpec};
-pub use release::{MeasuredLine, Release};
+pub use release::{MeasuredLine, Release, cost_of};
 pub use stage::{Stage, Stages};
 
 #[cfg(test)]

@@ -63,6 +63,8 @@ impl Release {
             (release_on (fraction_of ratio) spec.now domain metric) }
         ensures nothing_at_0 { IfOk result (λ release.
             let m = ⟦<Release as Measurement>⟧.mechanism release in m.privacy_map 0 ≡ Some 0) }
+        ensures few_pieces { IfOk result (λ release.
+            let m = ⟦<Release as Measurement>⟧.mechanism release in m.pieces ≤ 16) }
     {
         make_release(alloc, domain, metric, ratio, spec.as_slice())
     }
@@ -74,13 +76,7 @@ impl Release {
         requires { d ≤ 2 ^ 32 }
         ensures { let m = ⟦<Release as Measurement>⟧.mechanism self.now in result ≡ cost_of m d }
     {
-        let Ok(loss) = self.loss(d) else {
-            return Err(CostFault::Distance);
-        };
-        if self.draws() > MOST_DRAWS {
-            return Err(CostFault::Draws);
-        }
-        Ok(loss)
+        cost_of(self, d)
     }
 
     /// The release on an input: each part's line is applied to it, and what it gives is measured, one part after the
@@ -158,6 +154,21 @@ impl Measurement for Release {
         (r.ratio.positive, r.ratio.below_one, r.ratio.small) r.few r.alike };
 }
 
+/// What one release of a measurement costs on values within `d`, in units. `Distance` comes exactly where its privacy
+/// map has no number there; `Draws` exactly where it has one and the release takes more than 2^20 draws.
+pub fn cost_of<M: Measurement>(measurement: &M, d: u64) -> Result<u64, CostFault>
+    requires { d ≤ 2 ^ 32 }
+    ensures { let m = M.mechanism measurement.now in result ≡ cost_of m d }
+{
+    let Ok(loss) = measurement.loss(d) else {
+        return Err(CostFault::Distance);
+    };
+    if measurement.draws() > MOST_DRAWS {
+        return Err(CostFault::Draws);
+    }
+    Ok(loss)
+}
+
 /// The release of the parts, made from first to last.
 fn make_release(
     alloc: Global,
@@ -173,6 +184,8 @@ fn make_release(
         (release_on (fraction_of ratio) parts.now domain metric) }
     ensures nothing_at_0 { IfOk result (λ release.
         let m = ⟦<Release as Measurement>⟧.mechanism release in m.privacy_map 0 ≡ Some 0) }
+    ensures few_pieces { IfOk result (λ release.
+        let m = ⟦<Release as Measurement>⟧.mechanism release in m.pieces ≤ 16) }
 {
     let mut made = Vec::new(alloc);
     for part in parts {

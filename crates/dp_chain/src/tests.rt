@@ -397,7 +397,7 @@ fn a_part_answers_by_its_line_and_then_its_noise(rt: HostRuntime) -> Result<(), 
 }
 
 /// What a release of one part costs.
-fn cost_of(
+fn part_cost(
     rt: &impl Abort,
     alloc: Global,
     part: Result<Part, NoMemory>,
@@ -420,11 +420,11 @@ fn cost_of(
 fn a_cost_is_at_most_the_greatest_number_of_units(rt: HostRuntime) {
     let alloc = rt.alloc();
     assert_eq!(rt;
-        cost_of(&rt, alloc, counting(alloc, 2, 0, 0), 2_147_483_648),
+        part_cost(&rt, alloc, counting(alloc, 2, 0, 0), 2_147_483_648),
         Ok(4_294_967_296)
     );
     assert_eq!(rt;
-        cost_of(&rt, alloc, counting(alloc, 3, 0, 0), 2_147_483_648),
+        part_cost(&rt, alloc, counting(alloc, 3, 0, 0), 2_147_483_648),
         Err(CostFault::Distance)
     );
 }
@@ -432,13 +432,13 @@ fn a_cost_is_at_most_the_greatest_number_of_units(rt: HostRuntime) {
 #[test]
 fn a_release_has_at_most_a_million_draws(rt: HostRuntime) {
     let alloc = rt.alloc();
-    assert_eq!(rt; cost_of(&rt, alloc, counting_each(alloc, 15), 1), Ok(1));
+    assert_eq!(rt; part_cost(&rt, alloc, counting_each(alloc, 15), 1), Ok(1));
     assert_eq!(rt;
-        cost_of(&rt, alloc, counting_each(alloc, 16), 1),
+        part_cost(&rt, alloc, counting_each(alloc, 16), 1),
         Err(CostFault::Draws)
     );
     assert_eq!(rt;
-        cost_of(&rt, alloc, counting_each(alloc, 16), 4_294_967_296),
+        part_cost(&rt, alloc, counting_each(alloc, 16), 4_294_967_296),
         Err(CostFault::Draws)
     );
 }

@@ -2,6 +2,7 @@
 use Rattle.std.proofs.Common.{◌≡◌, ℕ, zero, suc, ◌+◌, ◌<◌, Bool, true, false, ◌||◌, List, [], ◌∷◌, length, get_or, Ok, Err, None, refl, sym, ◌∙◌, ap, subst, arith}
 use Rattle.std.specs.Prelude.{Result, not}
 use Rattle.std.specs.List.{list_any}
+use Rattle.std.proofs.lemmas.Bool.{not-true, or_parts}
 use Rattle.std.proofs.lemmas.List.{ext_get_or}
 use Rattle.std.proofs.lemmas.List.Sums.{passes_at_first}
 use Rattle.dp_domain.specs.Distance.{text_eq}
@@ -18,19 +19,11 @@ use Rattle.dp_domain.specs.Domains.{few_and_one}
 use Rattle.dp_group.specs.Grouped.{are_group_texts}
 use Rattle.dp_group.specs.GroupedProof.{both-true}
 
-pub neither : (a b : Bool) → (a || b) ≡ false → (a ≡ false) × (b ≡ false)
-neither true b h = absurd cc
-neither false b h = (refl, h)
-
 none-at : (p : List ℕ → Bool) (texts : List (List ℕ)) (i : ℕ) (d : List ℕ) → list_any p texts ≡ false
     → i < length texts → p (get_or texts i d) ≡ false
 none-at p [] i d h below = absurd (omega arith)
-none-at p (text ∷ texts) zero d h below = (neither (p text) (list_any p texts) h).0
-none-at p (text ∷ texts) (suc i) d h below = none-at p texts i d (neither (p text) (list_any p texts) h).1 (omega arith)
-
-pub not-true : (b : Bool) → not b ≡ true → b ≡ false
-not-true true h = absurd cc
-not-true false h = refl
+none-at p (text ∷ texts) zero d h below = (or_parts (p text) (list_any p texts) h).0
+none-at p (text ∷ texts) (suc i) d h below = none-at p texts i d (or_parts (p text) (list_any p texts) h).1 (omega arith)
 
 -- each of different texts stands at its own place
 different-place : (texts : List (List ℕ)) (i : ℕ) (d : List ℕ) → are_different texts ≡ true → i < length texts

@@ -1,5 +1,4 @@
 pub mod EachRelease
 pub mod GroupInputs
 pub mod GroupTexts
-pub mod OneMore
 pub mod Repeating

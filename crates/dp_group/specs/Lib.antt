@@ -3,5 +3,4 @@ pub mod ColumnProof
 pub mod Grouped
 pub mod GroupedLaw
 pub mod GroupedProof
-pub mod OneMore
 pub mod StepsProof

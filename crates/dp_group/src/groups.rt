@@ -6,7 +6,7 @@ ghost use Rattle.dp_domain.specs.declared.values.Value.TheVariants as value;
 ghost use Rattle.dp_law.specs.Making.{MakesOr};
 ghost use Rattle.dp_rowwise.specs.Categories.{are_different, place_in};
 ghost use Rattle.dp_rowwise.specs.Parts.{category_texts};
-ghost use Rattle.dp_group.specs.OneMore.{with_one_more};
+ghost use Rattle.dp_chain.specs.OneMore.{with_one_more};
 ghost use Rattle.dp_group.specs.Grouped.{group_texts, groups_of};
 
 use dp_count::NoMemory;

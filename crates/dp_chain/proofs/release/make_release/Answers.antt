@@ -8,6 +8,7 @@ use Rattle.dp_chain.specs.Releases.{joined, AreAlike}
 use Rattle.dp_chain.specs.contracts.release.ReleaseMeasurement.TheImpl.{ghosts as release_ghosts}
 use Rattle.dp_chain.specs.PartMeanings.{MeasuredLine, part_mechanism}
 use Rattle.dp_chain.proofs.MeasuredLines.{part_law}
+use Rattle.dp_chain.proofs.SmallReleases.{parts-pieces}
 use Rattle.dp_chain.proofs.ReleaseMaking.{parts-start, parts-next, parts-end, parts-zero, release-fault, alike-nil, alike-more, made-suits}
 use Rattle.dp_chain.proofs.release.make_release.Goals as goal
 
@@ -70,3 +71,12 @@ returns-clause-nothing_at_0 c =
     parts-zero ratio c.args.parts.now c.args.domain c.args.metric (map part_mechanism c.loop-part.made.items)
     (parts-end part_mechanism ratio c.args.parts.now c.loop-part.part-index c.args.domain c.args.metric c.loop-part.made.items
     c.loop-part-test.false c.loop-part.invariant.forward)
+
+pub returns-clause-few_pieces : goal.returns-clause-few_pieces
+returns-clause-few_pieces c =
+    let ratio : Fraction = record { p = c.args.ratio.p; q = c.args.ratio.q } in
+    let few = c.requires.few in
+    let many = parts-pieces ratio c.args.parts.now c.args.domain c.args.metric (map part_mechanism c.loop-part.made.items)
+    (parts-end part_mechanism ratio c.args.parts.now c.loop-part.part-index c.args.domain c.args.metric c.loop-part.made.items
+    c.loop-part-test.false c.loop-part.invariant.forward) in
+    omega arith

@@ -4,7 +4,7 @@ use Rattle.std.proofs.lemmas.List.{take_more, length-take}
 use Rattle.dp_domain.specs.Users.{cell}
 use Rattle.dp_rowwise.specs.Parts.{category_texts}
 use Rattle.dp_group.specs.GroupedLaw.{Records}
-use Rattle.dp_group.proofs.OneMore.{groups-none, parts-short, grew}
+use Rattle.dp_chain.proofs.OneMore.{groups-none, parts-short, grew}
 use Rattle.dp_group.proofs.groups.parts_of.Goals as goal
 
 pub loop-cells-init : goal.loop-cells-init

@@ -1,8 +1,9 @@
--- One record more puts it at the end of the group of its text, and changes no other group.
-use Rattle.std.proofs.Common.{◌≡◌, ℕ, suc, ◌+◌, ◌<◌, true, false, List, [], ◌∷◌, ◌++◌, map, length, take, get_or, replicate, refl, sym, ◌∙◌, ap, subst, arith, inl, inr}
+-- One element more stands at the end of the group of its text, and changes no other group.
+use Rattle.std.proofs.Common.{◌≡◌, ℕ, suc, ◌+◌, ◌<◌, true, false, List, [], ◌∷◌, ◌++◌, map, length, take, get_or, replicate}
+use Rattle.std.proofs.Common.{refl, sym, ◌∙◌, ap, subst, arith, inl, inr}
 use Rattle.std.specs.Prelude.{not}
 use Rattle.std.specs.List.{All, list_any}
-use Rattle.std.proofs.lemmas.Bool.{cases_Bool}
+use Rattle.std.proofs.lemmas.Bool.{cases_Bool, not-true, and_parts, or_parts}
 use Rattle.std.proofs.lemmas.List.{append-nil}
 use Rattle.std.proofs.lemmas.List.Elements.{filter-append, All-map}
 use Rattle.std.proofs.lemmas.List.Sums.{length-filter, count_by-le-length}
@@ -10,11 +11,9 @@ use Rattle.dp_domain.specs.Distance.{text_eq}
 use Rattle.dp_domain.specs.Users.{group}
 use Rattle.dp_domain.proofs.Equality.{text_eq-decides}
 use Rattle.dp_rowwise.specs.Categories.{place_in, are_different}
-use Rattle.dp_group.specs.OneMore.{with_one_more}
-use Rattle.dp_group.specs.GroupedProof.{both-true}
-use Rattle.dp_group.proofs.GroupTexts.{neither, not-true}
+use Rattle.dp_chain.specs.OneMore.{with_one_more}
 
--- before the first record each group is empty
+-- before the first element each group is empty
 pub groups-none : {X Y : Type 0} (texts : List X)
     → replicate {A = List Y} (length texts) [] ≡ map (λ text. []) texts
 groups-none [] = refl
@@ -42,7 +41,7 @@ module _ {E : Type 0} (key : E → List ℕ) where
       → map (part xs) texts ≡ parts_with xs x texts
   parts-same xs x [] h = refl
   parts-same xs x (text ∷ texts) h =
-      let none = neither (text_eq (key x) text) (list_any (text_eq (key x)) texts) h in
+      let none = or_parts (text_eq (key x) text) (list_any (text_eq (key x)) texts) h in
       rw (part-same xs x text none.0, parts-same xs x texts none.1) refl
 
   grown-first : (xs : List E) (x : E) (text : List ℕ) (texts : List (List ℕ))
@@ -69,7 +68,7 @@ module _ {E : Type 0} (key : E → List ℕ) where
   unfolding are_different
   grown xs x [] h = refl
   grown xs x (text ∷ texts) h =
-      let halves = both-true (not (list_any (text_eq text) texts)) (are_different texts) h in
+      let halves = and_parts (not (list_any (text_eq text) texts)) (are_different texts) h in
       let place = place_in texts (key x) in
       elim (cases_Bool (text_eq (key x) text)) [
         | inl same ↦ rw same (grown-first xs x text texts halves.0 same)
