@@ -7,7 +7,7 @@ pub mod laws;
 mod post;
 mod posted;
 
-pub use post::{Post, Posts};
+pub use post::{Post, Posts, changed_answer};
 pub use posted::Posted;
 
 #[cfg(test)]

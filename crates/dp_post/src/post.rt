@@ -62,7 +62,7 @@ fn posted_piece(posts: &[Post], piece: Piece) -> Piece
 }
 
 /// The answer with each of its pieces changed by all of the changes, from first to last, in the answer's own memory.
-pub(crate) fn posted(posts: &[Post], answer: Answer) -> Answer
+pub fn changed_answer(posts: &[Post], answer: Answer) -> Answer
     ensures { result ≡ posted posts.now answer }
 {
     let mut pieces = answer.into_vec();
@@ -151,7 +151,7 @@ mod tests {
         pieces.push(Piece::Int(-4))?;
         pieces.push(vector(rt.alloc(), [1, 1, 1])?)?;
         let posts = [Post::Cumulate, Post::Floor];
-        let answer = posted(&posts, Answer::from_vec(pieces)).into_vec();
+        let answer = changed_answer(&posts, Answer::from_vec(pieces)).into_vec();
         assert_eq!(rt; answer.len(), 3);
         assert!(rt; is_vector(&answer[0], &[3, 2]));
         assert!(rt; matches!(answer[1], Piece::Int(0)));

@@ -2,7 +2,7 @@ ghost use Rattle.std.specs.Prelude.{◌≡◌, ◌≤◌, length};
 ghost use Rattle.dp_post.specs.Posts.{posted};
 ghost use Rattle.dp_post.specs.Posted.{changed_by};
 
-use crate::post::{Posts, posted};
+use crate::post::{Posts, changed_answer};
 use dp_count::{NoMemory, Shape};
 use dp_domain::{Domain, Metric, Value};
 use dp_draws::Draws;
@@ -68,7 +68,7 @@ impl<M: Measurement> Measurement for Posted<M> {
     ) -> Result<Answer, ReleaseFault> {
         match self.inner.release(alloc, v, draws) {
             Err(fault) => Err(fault),
-            Ok(answer) => Ok(posted(self.posts.as_slice(), answer)),
+            Ok(answer) => Ok(changed_answer(self.posts.as_slice(), answer)),
         }
     }
 
