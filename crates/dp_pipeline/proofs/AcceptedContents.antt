@@ -130,7 +130,7 @@ abbrev and_then : {A B E : Type 0} → Result A E → (A → Result B E) → Res
 and_then (Ok a) f = f a
 and_then (Err e) f = Err e
 
-after : {A B E : Type 0} (r : Result A E) (f : A → Result B E) (b : B) → and_then r f ≡ Ok b → (a : A) × (r ≡ Ok a) × (f a ≡ Ok b)
+pub after : {A B E : Type 0} (r : Result A E) (f : A → Result B E) (b : B) → and_then r f ≡ Ok b → (a : A) × (r ≡ Ok a) × (f a ≡ Ok b)
 after (Ok a) f b h = (a, refl, h)
 after (Err e) f b h = absurd cc
 

@@ -69,7 +69,7 @@ abbrev pub AreFew : List Plan → Type 0
 AreFew [] = Unit {0}
 AreFew (plan ∷ plans) = IsFew plan.spec × AreFew plans
 
-plan-few : (plans : List Plan) (name : List ℕ) (spec : SpecValue) → AreFew plans → plan_named plans name ≡ Some spec → IsFew spec
+pub plan-few : (plans : List Plan) (name : List ℕ) (spec : SpecValue) → AreFew plans → plan_named plans name ≡ Some spec → IsFew spec
 unfolding plan_named
 plan-few [] name spec few h = absurd cc
 plan-few (plan ∷ plans) name spec few h = go (text_eq name plan.name) (plan-few plans name spec few.1) h

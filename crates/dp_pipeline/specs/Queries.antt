@@ -1,5 +1,5 @@
 -- What a query's line says, if it is of one of the two forms.
-use Rattle.std.specs.Prelude.{◌≡◌, ℕ, ◌≤◌, ◌^◌, List, [], ◌∷◌, Option, Some, None, if◌then◌else◌, codes, IsSome}
+use Rattle.std.specs.Prelude.{◌≡◌, ℕ, ◌≤◌, ◌^◌, List, [], ◌∷◌, Option, Some, None, Ok, if◌then◌else◌, codes, IsSome}
 use Rattle.std.specs.Option.{option_or}
 use Rattle.serde_json.specs.Data.{Data}
 use Rattle.dp_budget.specs.Rules.{BudgetValue, fresh, are_mids, declared}
@@ -10,6 +10,7 @@ use Rattle.dp_pipeline.specs.declared.content.Content.{Content}
 use Rattle.dp_pipeline.specs.declared.plan.Plan.{Plan}
 use Rattle.dp_pipeline.specs.declared.query.Query.{Query}
 use Rattle.dp_pipeline.specs.declared.query.Query.TheVariants as query
+use Rattle.dp_pipeline.specs.Accepted.{ratio_of, root_place, release_cost}
 use Rattle.dp_pipeline.specs.Contents.{member_by, has_only}
 use Rattle.dp_pipeline.specs.Json.{◌>>=◌, json_of, list_of, count_of, text_of}
 use Rattle.dp_pipeline.specs.RootForms.{rule_of}
@@ -19,6 +20,11 @@ use Rattle.dp_pipeline.specs.StageForms.{SpecValue, spec_of, stage_of}
 unfoldable pub plan_named : List Plan → List ℕ → Option SpecValue
 plan_named [] name = None
 plan_named (plan ∷ plans) name = if text_eq name plan.name then Some plan.spec else plan_named plans name
+
+-- the release has a cost where the plans are made
+abbrev pub HasCost : Content → SpecValue → Type 0
+HasCost content spec =
+    (cost : ℕ) × (release_cost (ratio_of content) spec.parts (root_place content) ≡ Ok cost)
 
 -- a release: the name of a plan stands for its own
 abbrev pub asked_as : Content → Data → Option (List ℕ) → Option SpecValue

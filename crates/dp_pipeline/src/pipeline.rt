@@ -1,20 +1,24 @@
-ghost use Rattle.std.specs.Prelude.{◌≡◌, IfErr, ◌≤◌, ◌^◌, ◌<◌, IfSome, length, true};
+ghost use Rattle.std.specs.Prelude.{◌≡◌, IfErr, ◌≤◌, ◌^◌, ◌<◌, IfSome, length, option_map, true};
 ghost use Rattle.dp_count.specs.Results.{on_ok};
 ghost use Rattle.dp_domain.specs.Domains.{Fits};
 ghost use Rattle.dp_domain.specs.Users.{user_metric};
 ghost use Rattle.dp_chain.specs.Meanings.{fraction_of};
 ghost use Rattle.dp_pipeline.specs.Accepted.{accepted, plans_made, root_place, is_in_range, IsBounded, IsLimit, is_rule, ratio_of, siblings_open};
 ghost use Rattle.dp_pipeline.specs.Answers.{Answers, IsNumbered};
+ghost use Rattle.dp_pipeline.specs.Queries.{plan_named, HasCost};
+ghost use Rattle.dp_pipeline.specs.StageForms.{place_of};
 
 use crate::content::{Content, Siblings};
 use crate::costs::make_plans;
 use crate::faults::PipelineFault;
 use crate::json::parse;
 use crate::place::Place;
-use crate::plan::Plans;
+use crate::plan::{Plans, plan_named};
 use crate::ranges::is_in_range;
 use crate::reading::content_from;
 use crate::root::RootSpec;
+use crate::spec::Spec;
+use crate::stages::place_of;
 use dp_domain::{Domain, Metric, Texts};
 use dp_num::Ratio;
 use std::alloc::Global;
@@ -157,6 +161,26 @@ impl Pipeline {
         ensures { result.now ≡ self.now.plans }
     {
         &self.content.plans
+    }
+
+    /// The release of the plan of that name, if there is one. It is made at the root, and has a cost there.
+    pub fn plan(&self, name: &[u8]) -> Option<&Spec>
+        ensures spec { option_map (λ spec. spec.now) result ≡ plan_named self.now.plans name.now }
+        ensures cost { IfSome result (λ spec. HasCost self.now spec.now) }
+    {
+        plan_named(self.content.plans.as_slice(), name)
+    }
+
+    /// The column of that name, from 0, if there is one.
+    #[tactic(auto, using(crate::proofs::InRange::columns_few))]
+    pub fn column(&self, name: &[u8]) -> Option<u32>
+        ensures column { result ≡ place_of self.now.columns name.now }
+        ensures range { IfSome result (λ column. column < length self.now.columns) }
+    {
+        match place_of(self.content.columns.as_slice(), name) {
+            Some(place) => Some(place as u32),
+            None => None,
+        }
     }
 
     /// The column that names persons, if there is one. The distance of data texts then counts persons.

@@ -11,11 +11,9 @@ ghost use Rattle.dp_pipeline.specs.Answers.{Reads};
 use crate::faults::QueryFault;
 use crate::json::{list, member, parse, text};
 use crate::pipeline::Pipeline;
-use crate::plan::Plan;
 use crate::reading::{count_at, has_only};
 use crate::root::rule_from;
 use crate::spec::{Spec, spec_from};
-use crate::stages::is_text;
 use dp_budget::{Budget, Rule};
 use dp_chain::Stages;
 use dp_count::NoMemory;
@@ -107,22 +105,19 @@ fn asked_from(alloc: Global, pipeline: &Pipeline, asked: &Value) -> Result<Optio
     ensures { IfOk result (λ found. found ≡ asked_of pipeline.now (view asked.now)) }
 {
     match text(asked) {
-        Some(name) => plan_named(alloc, pipeline.plans().as_slice(), name.as_bytes()),
+        Some(name) => named(alloc, pipeline, name.as_bytes()),
         None => spec_from(alloc, pipeline.columns().as_slice(), asked),
     }
 }
 
 /// A copy of the release of the plan of that name.
-#[tactic(auto, unfolding(crate::specs::Queries::plan_named))]
-fn plan_named(alloc: Global, plans: &[Plan], name: &[u8]) -> Result<Option<Spec>, NoMemory>
-    ensures { IfOk result (λ found. found ≡ plan_named plans.now name.now) }
+fn named(alloc: Global, pipeline: &Pipeline, name: &[u8]) -> Result<Option<Spec>, NoMemory>
+    ensures { IfOk result (λ found. found ≡ plan_named pipeline.now.plans name.now) }
 {
-    for plan in plans {
-        if is_text(&plan.name, name) {
-            return Ok(Some(plan.spec.copy(alloc)?));
-        }
+    match pipeline.plan(name) {
+        Some(spec) => Ok(Some(spec.copy(alloc)?)),
+        None => Ok(None),
     }
-    Ok(None)
 }
 
 /// `{"node": N, "open": LINE, "distance": D, "budget": B}`

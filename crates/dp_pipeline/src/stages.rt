@@ -229,7 +229,7 @@ pub(crate) fn column_named(columns: &[Text], name: &Value) -> Result<Option<u32>
 }
 
 /// The place of the first column of the name, if there is one.
-fn place_of(columns: &[Text], name: &[u8]) -> Option<usize>
+pub(crate) fn place_of(columns: &[Text], name: &[u8]) -> Option<usize>
     ensures place { result ≡ place_of columns.now name.now }
     ensures range { IfSome result (λ place. place < length columns.now) }
 {

@@ -1,6 +1,6 @@
 use Rattle.std.proofs.Common.{◌≡◌, drop}
 use Rattle.dp_pipeline.specs.Queries.{plan_named}
-use Rattle.dp_pipeline.proofs.query.plan_named.Given as goal
+use Rattle.dp_pipeline.proofs.plan.plan_named.Given as goal
 
 -- what is left decides
 abbrev pub invariant-loop-plan : goal.invariant-loop-plan
