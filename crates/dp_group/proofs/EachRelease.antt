@@ -1,8 +1,8 @@
 -- Releases on several values one after the other. What is still to be released leads on from the answers so far.
-use Rattle.std.proofs.Common.{◌≡◌, ℕ, suc, ◌+◌, ◌≤◌, ◌<◌, List, [], ◌∷◌, ◌++◌, length, take, drop, get_or, add-one, drop-cons, Ok, Err, refl, sym, ◌∙◌, ap, subst, append_assoc}
+use Rattle.std.proofs.Common.{◌≡◌, ℕ, suc, ◌+◌, ◌≤◌, ◌<◌, List, [], ◌∷◌, ◌++◌, map, length, take, drop, get_or, add-one, drop-cons, Ok, Err, refl, sym, ◌∙◌, ap, subst, append_assoc}
 use Rattle.std.specs.Prelude.{Result, option_map}
 use Rattle.std.specs.List.{All, repeat}
-use Rattle.std.proofs.lemmas.List.{append-nil}
+use Rattle.std.proofs.lemmas.List.{append-nil, length-map}
 use Rattle.std.proofs.lemmas.List.Elements.{All-weaker}
 use Rattle.dp_draws.specs.Taking.{Turn, Taken}
 use Rattle.dp_draws.proofs.Taking.{take_draws-none, take_draws-list, DrawsBelow}
@@ -124,14 +124,24 @@ module _ (step : List ℕ → ℕ → Turn) (m : Mechanism) where
       let fits = take_draws-list step below before m.shape drawn.0 positive taken in
       ap length drawn.2 ∙ law.whole v drawn.0 has fits
 
--- the value at the place, and those after it
-pub next-value : (values : List Value) (i : ℕ) (v : Value) → i < length values → v ≡ get_or values i v
-    → drop i values ≡ v ∷ drop (i + 1) values
-next-value values i v below is =
-    drop-cons values i v below ∙ ap (λ (first : Value). first ∷ drop (suc i) values) (sym is)
-    ∙ ap (λ (k : ℕ). v ∷ drop k values) (sym (add-one i))
+-- the value of the input at the place, and those of the inputs after it
+pub next-input : {T : Type 0} (value : T → Value) (inputs : List T) (i : ℕ) (input : T) → i < length inputs
+    → input ≡ get_or inputs i input → map value (drop i inputs) ≡ value input ∷ map value (drop (i + 1) inputs)
+next-input {T} value inputs i input below is =
+    ap (map value) (drop-cons inputs i input below)
+    ∙ ap (λ (first : T). value first ∷ map value (drop (suc i) inputs)) (sym is)
+    ∙ ap (λ (k : ℕ). value input ∷ map value (drop k inputs)) (sym (add-one i))
 
--- the value at the place is in the domain of all
-pub value-has : (m : Mechanism) (values : List Value) (i : ℕ) (v : Value) → All (Has m.input_domain) values
-    → i < length values → v ≡ get_or values i v → Has m.input_domain v
-value-has m values i v all below is = subst (λ (w : Value). Has m.input_domain w) (sym is) (all i v below)
+-- what holds of all inputs holds of the one at the place
+pub input-takes : {T : Type 0} (P : T → Type 0) (inputs : List T) (i : ℕ) (input : T) → All P inputs
+    → i < length inputs → input ≡ get_or inputs i input → P input
+input-takes {T} P inputs i input all below is = subst P (sym is) (all i input below)
+
+-- there are as many values as inputs
+pub released-as : {T : Type 0} (step : List ℕ → ℕ → Turn) (m : Mechanism) (value : T → Value) (inputs : List T)
+    (before : List ℕ) (result : Result (List Piece) ReleaseFault) (after : List ℕ)
+    → ReleasedOn step m (map value inputs) before result after
+    → Released step (repeat (length inputs) m.shape) (answers_on m (map value inputs)) before result after
+released-as {T} step m value inputs before result after h =
+    subst (λ (n : ℕ). Released step (repeat n m.shape) (answers_on m (map value inputs)) before result after)
+    (length-map inputs value) h

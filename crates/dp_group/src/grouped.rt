@@ -1,14 +1,15 @@
-ghost use Rattle.std.specs.Prelude.{◌≡◌, ◌≤◌, ◌*◌, ◌^◌, length, true, Some, IfOk};
+ghost use Rattle.std.specs.Prelude.{◌≡◌, ◌≤◌, ◌*◌, ◌^◌, length, map, true, Some, IfOk};
 ghost use Rattle.std.specs.List.{All, repeat};
-ghost use Rattle.dp_domain.specs.Domains.{Has};
 ghost use Rattle.dp_domain.specs.declared.metrics.Metric.TheVariants as metrics;
 ghost use Rattle.dp_law.specs.Making.{MakesOr};
 ghost use Rattle.dp_law.specs.Releasing.{Released, ReleaseCause};
+ghost use Rattle.dp_rowwise.specs.Categories.{are_different};
 ghost use Rattle.dp_rowwise.specs.Parts.{category_texts};
-ghost use Rattle.dp_group.specs.Grouped.{TakesColumn, answers_on, are_group_texts, grouped_on};
+ghost use Rattle.dp_group.specs.Grouped.{TakesColumn, answers_on, are_group_texts, grouped, grouped_on};
 ghost use Rattle.dp_group.specs.ColumnProof.{TakesColumn-prop};
 
 use crate::groups::{count_of, groups_of, table_of};
+use crate::input::ReleaseInput;
 use dp_count::{NoMemory, Shape};
 use dp_domain::{Domain, Metric, Texts, Value};
 use dp_draws::Draws;
@@ -63,6 +64,18 @@ impl<M: Measurement + Drop> Grouped<M> {
             }),
             Err(fault) => Err(fault),
         }
+    }
+}
+
+impl<M: Measurement> Grouped<M> {
+    /// The inner measurement, the column from 0, and the texts in order.
+    pub fn parts(&self) -> (&M, u32, &Categories)
+        ensures grouped { ⟦<Grouped<M> as Measurement>⟧.mechanism self.now
+            ≡ grouped result.1 (category_texts result.2.now) (M.mechanism result.0.now) }
+        ensures column { TakesColumn (M.mechanism result.0.now) result.1 }
+        ensures different { are_different (category_texts result.2.now) ≡ true }
+    {
+        (&self.inner, self.column, &self.texts)
     }
 }
 
@@ -133,23 +146,23 @@ fn repeated(alloc: Global, shape: &Shape, times: u32) -> Result<Shape, NoMemory>
     Ok(whole)
 }
 
-/// The answers of the measurement on the values in order. The memory for an answer is taken before its first draw.
-fn release_each<M: Measurement, D: Draws>(
+/// The answers of the measurement on the inputs in order. The memory for an answer is taken before its first draw.
+pub fn release_each<M: Measurement, I: ReleaseInput<M>, D: Draws>(
     alloc: Global,
     inner: &M,
-    values: &[Value],
+    inputs: &[I],
     draws: &mut D,
 ) -> Result<Answer, ReleaseFault>
-    requires { let m = M.mechanism inner.now in All (Has m.input_domain) values.now }
+    requires { let m = M.mechanism inner.now in All (λ input. I.takes input m.input_domain) inputs.now }
     ensures released { let m = M.mechanism inner.now in
-        Released D.step (repeat (length values.now) m.shape) (answers_on m values.now)
+        Released D.step (repeat (length inputs.now) m.shape) (answers_on m (map I.stands_for inputs.now))
         (D.state draws.old) result (D.state draws.new) }
     ensures cause { ReleaseCause (D.faults draws.old) (D.faults draws.new) result }
 {
     let mut answer = Vec::new(alloc);
-    for value in values {
+    for input in inputs {
         answer.reserve(inner.pieces() as usize)?;
-        let part = inner.release(alloc, value, draws)?;
+        let part = input.released(alloc, inner, draws)?;
         answer.append(&mut part.into_vec()).unwrap();
     }
     Ok(Answer::from_vec(answer))

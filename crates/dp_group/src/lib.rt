@@ -4,9 +4,11 @@
 
 mod grouped;
 mod groups;
+mod input;
 pub mod laws;
 
-pub use grouped::Grouped;
+pub use grouped::{Grouped, release_each};
+pub use input::ReleaseInput;
 
 #[cfg(test)]
 mod tests;
