@@ -87,3 +87,12 @@ place-further p slice buffer given searched more same within none h =
     take_rest slice (given + searched) ∙ ap (drop (given + searched)) same ∙ sym (drop-drop searched given buffer) in
     let count : searched ≤ length (drop given buffer) = omega (arith, length-drop given buffer) in
     ap (λ n. searched + n) (h ∙ ap (position_or_len p) rest) ∙ place-drop p (drop given buffer) searched count none
+
+none-front-step : (b c d : Bool) → (b || c) ≡ false → (c ≡ false → d ≡ false) → (b || d) ≡ false
+none-front-step true c d e h = absurd (cc)
+none-front-step false c d e h = h e
+
+-- where none passes, none passes of a front
+pub none-front : (p : ℕ → Bool) (xs ys : List ℕ) → list_any p (xs ++ ys) ≡ false → list_any p xs ≡ false
+none-front p [] ys h = refl
+none-front p (x ∷ xs) ys h = none-front-step (p x) _ _ h (none-front p xs ys)

@@ -1,12 +1,12 @@
 -- What remains to a reader of lines, after it gave a line and after it read a piece.
 use Rattle.std.proofs.Common.{◌≡◌, ℕ, ◌≤◌, Bool, true, false, ◌||◌, nat_lt, ◌==◌, if◌then◌else◌, List, [], ◌++◌, length, Option, Some, None, option_map, refl, sym, ap, ◌∙◌, append_assoc, arith}
-use Rattle.std.specs.List.{position_or_len}
+use Rattle.std.specs.List.{list_any, position_or_len}
 use Rattle.std.proofs.lemmas.Bool.{ltb-true, ltb-false, or_parts}
 use Rattle.std.proofs.lemmas.Bool.Decides.{nat_tests}
 use Rattle.std.proofs.lemmas.List.{nil_from_length}
 use Rattle.dp_io.specs.Shelf.{preceded, IsEmptied}
 use Rattle.dp_io.specs.Lines.{LinesValue, is_line_feed, first_line, after_first_line, remaining, needs_read, ReadsAhead}
-use Rattle.dp_io.proofs.FirstPlaces.{length-before_first, before_first-append, after_first-append, place-append-le, none-from-place}
+use Rattle.dp_io.proofs.FirstPlaces.{length-before_first, before_first-append, after_first-append, place-append-le, none-place, none-from-place, none-front}
 
 -- the first line ends in the bytes read ahead, or no more bytes come
 abbrev pub is_first_known : LinesValue → Bool
@@ -40,6 +40,24 @@ long-known false ahead rest = omega (arith, length-before_first is_line_feed (ah
 pub line-long : (lines : LinesValue) (left : Option (List ℕ)) (text : List ℕ) → remaining lines left ≡ Some text → position_or_len is_line_feed lines.read_ahead ≤ length (first_line text)
 line-long lines None text h = absurd (cc)
 line-long lines (Some rest) text h = let all : (if lines.at_end then lines.read_ahead else lines.read_ahead ++ rest) ≡ text = cc in rw (← all) (long-known lines.at_end lines.read_ahead rest)
+
+unended-known : (at_end : Bool) (ahead rest : List ℕ)
+    → (at_end || nat_lt (position_or_len is_line_feed ahead) (length ahead)) ≡ true
+    → list_any is_line_feed (if at_end then ahead else ahead ++ rest) ≡ false → at_end ≡ true
+unended-known true ahead rest known none = refl
+unended-known false ahead rest known none =
+    let none_ahead : list_any is_line_feed ahead ≡ false = none-front is_line_feed ahead rest none in
+    let before = ltb-true _ _ known in
+    let place = none-place is_line_feed ahead none_ahead in
+    absurd (omega arith)
+
+-- a first line that is known and has no line feed ends the text
+pub unended-at_end : (lines : LinesValue) (left : Option (List ℕ)) (text : List ℕ) → is_first_known lines ≡ true
+    → remaining lines left ≡ Some text → list_any is_line_feed text ≡ false → lines.at_end ≡ true
+unended-at_end lines None text known h none = absurd (cc)
+unended-at_end lines (Some rest) text known h none =
+    let all : (if lines.at_end then lines.read_ahead else lines.read_ahead ++ rest) ≡ text = cc in
+    unended-known lines.at_end lines.read_ahead rest known (rw all none)
 
 -- where the first line is not known, more is to come
 pub more-unknown : (lines : LinesValue) → is_first_known lines ≡ false → lines.at_end ≡ false

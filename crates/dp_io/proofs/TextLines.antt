@@ -1,13 +1,13 @@
 -- The lines of a text, taken off one after another.
-use Rattle.std.proofs.Common.{◌≡◌, ℕ, zero, suc, ◌+◌, ◌<◌, ◌≤◌, Bool, true, false, ◌||◌, inl, inr, not, ◌==◌, List, [], ◌∷◌, length, take, nat_lt, refl, ap, ◌∙◌, arith}
+use Rattle.std.proofs.Common.{◌≡◌, ℕ, zero, suc, ◌+◌, ◌<◌, ◌≤◌, Bool, true, false, ◌||◌, inl, inr, not, ◌==◌, List, [], ◌∷◌, ◌++◌, cond, length, take, drop, nat_lt, refl, ap, ◌∙◌, arith}
 use Rattle.std.specs.List.{list_any, position_or_len, slice_split, take_while}
-use Rattle.std.proofs.lemmas.Bool.{cases_lt, cond-false, ne_eqb, lt-ltb, ltb-false, le-leb, lt-leb, or_parts, or_right}
+use Rattle.std.proofs.lemmas.Bool.{cases_lt, cond-false, ne_eqb, lt-ltb, ltb-false, le-leb, lt-leb, eqb-true, or_parts, or_right}
 use Rattle.std.proofs.lemmas.Bool.Decides.{nat_tests}
 use Rattle.std.proofs.lemmas.List.{take_all, drop_all}
 use Rattle.std.proofs.lemmas.List.Sums.{fails_before_first, take_while-cons}
-use Rattle.std.proofs.lemmas.List.Splits.{slice_split_none, slice_split_first, length-slice_split}
-use Rattle.dp_io.specs.Lines.{is_line_feed, first_line, after_first_line, without_empty_last, lines_of, is_short, lines_within, has_line_over}
-use Rattle.dp_io.proofs.FirstPlaces.{length-before_first, place-le}
+use Rattle.std.proofs.lemmas.List.Splits.{slice_split_none, slice_split_first, slice_split_at, length-slice_split}
+use Rattle.dp_io.specs.Lines.{is_line_feed, first_line, after_first_line, without_empty_last, lines_of, without_last, ended_lines, is_short, lines_within, has_line_over}
+use Rattle.dp_io.proofs.FirstPlaces.{length-before_first, place-le, none-place}
 
 without-cons : (piece : List ℕ) (pieces : List (List ℕ)) → 0 < length pieces → without_empty_last (piece ∷ pieces) ≡ piece ∷ without_empty_last pieces
 without-cons piece [] some = absurd (omega arith)
@@ -113,3 +113,41 @@ within-all most text none =
     let both : (list_any (λ line. not (is_short line)) (lines_of text) ≡ false) × (nat_lt most (length (lines_of text)) ≡ false) = or_parts _ _ none in
     let few : length (lines_of text) ≤ most = ltb-false _ _ both.1 in
     rw (take_all most (lines_of text) few) (take-while-all (lines_of text) both.0)
+
+-- ---- the lines that end with a line feed
+
+last-cons : (piece : List ℕ) (pieces : List (List ℕ)) → 0 < length pieces → without_last (piece ∷ pieces) ≡ piece ∷ without_last pieces
+last-cons piece [] some = absurd (omega arith)
+last-cons piece (next ∷ pieces) some = refl
+
+pub ended-none : (text : List ℕ) → list_any is_line_feed text ≡ false → ended_lines text ≡ []
+unfolding ended_lines
+ended-none text none =
+    let place = none-place is_line_feed text none in
+    ap without_last (slice_split_none is_line_feed text (λ k d h. fails_before_first is_line_feed text k d (omega arith)))
+
+-- a first line and its line feed, and then the lines of what comes after it
+pub ended-first : (line more : List ℕ) → list_any is_line_feed line ≡ false → ended_lines (line ++ 10 ∷ more) ≡ line ∷ ended_lines more
+unfolding ended_lines
+ended-first line more none =
+    let place = none-place is_line_feed line none in
+    let some : 0 < length (slice_split is_line_feed more) = omega (arith, length-slice_split is_line_feed more) in
+    ap without_last (slice_split_at is_line_feed line 10 more (λ k d h. fails_before_first is_line_feed line k d (omega arith)) refl)
+    ∙ last-cons line (slice_split is_line_feed more) some
+
+fed-step : (fed any : Bool) (byte place : ℕ) (rest : List ℕ) → (byte == 10) ≡ fed → (fed || any) ≡ true
+    → (any ≡ true → rest ≡ take place rest ++ 10 ∷ drop (place + 1) rest)
+    → byte ∷ rest ≡ take (cond (not fed) (1 + place) 0) (byte ∷ rest) ++ 10 ∷ drop (cond (not fed) (1 + place) 0 + 1) (byte ∷ rest)
+fed-step true any byte place rest is some more =
+    let same : byte ≡ 10 = eqb-true _ _ is in
+    rw same refl
+fed-step false any byte place rest is some more =
+    let one : 1 + place ≡ suc place = omega arith in
+    let two : suc place + 1 ≡ suc (place + 1) = omega arith in
+    rw (one, two) (ap (λ l. byte ∷ l) (more some))
+
+-- a text that has a line feed is its first line, a line feed, and what comes after it
+pub text-fed : (text : List ℕ) → list_any is_line_feed text ≡ true → text ≡ first_line text ++ 10 ∷ after_first_line text
+text-fed [] some = absurd (cc)
+text-fed (byte ∷ rest) some =
+    fed-step (byte == 10) (list_any is_line_feed rest) byte (position_or_len is_line_feed rest) rest refl some (text-fed rest)

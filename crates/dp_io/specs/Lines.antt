@@ -24,6 +24,16 @@ without_empty_last (piece ∷ next ∷ pieces) = piece ∷ without_empty_last (n
 unfoldable pub lines_of : List ℕ → List (List ℕ)
 lines_of text = without_empty_last (slice_split is_line_feed text)
 
+-- the pieces without the last
+abbrev pub without_last : List (List ℕ) → List (List ℕ)
+without_last [] = []
+without_last (piece ∷ []) = []
+without_last (piece ∷ next ∷ pieces) = piece ∷ without_last (next ∷ pieces)
+
+-- the lines of a text that end with a line feed: the pieces between its line feeds, without what is after the last
+unfoldable pub ended_lines : List ℕ → List (List ℕ)
+ended_lines text = without_last (slice_split is_line_feed text)
+
 -- a line of at most 65,536 bytes
 abbrev pub is_short : List ℕ → Bool
 is_short line = nat_le (length line) 65536

@@ -78,7 +78,8 @@ impl Lines {
     ///
     /// `TooLong` comes exactly where the line has more than 65,536 bytes and no read failed. `Failed` comes
     /// only where the shelf's count of faults rose. After either the same text remains as before the call,
-    /// and after `Failed` every whole line that was read has been given.
+    /// and after `Failed` every whole line that was read has been given. A line without a line feed is given only
+    /// after a read that came to the end.
     pub fn next<S: Shelf>(&mut self, shelf: &mut S) -> Result<bool, LineFault>
         requires { self.old.slot < S.slots shelf.old }
         ensures more { IfOk result (λ more.
@@ -100,6 +101,8 @@ impl Lines {
         ensures kept { OnErr result (remaining self.new (S.left shelf.new self.old.slot)
             ≡ remaining self.old (S.left shelf.old self.old.slot)) }
         ensures failed_ahead { result ≡ Err LineFault.Failed → needs_read self.new ≡ true }
+        ensures unended { result ≡ Ok true → ForSome (remaining self.old (S.left shelf.old self.old.slot))
+            (λ text. list_any is_line_feed text ≡ false → self.new.at_end ≡ true) }
         ensures same_slot { self.new.slot ≡ self.old.slot }
         ensures end { self.new.at_end ≡ true
             → ((self.old.at_end ≡ true) ⊎ IsEmptied (S.left shelf.new self.old.slot)) }

@@ -1,7 +1,7 @@
 use Rattle.std.proofs.Common.{rules, ◌≡◌, ℕ, subst, inr, true, false, option_map, ap, sym, ◌∙◌, arith}
 use Rattle.dp_io.specs.Lines.{LinesValue, is_line_feed, first_line, after_first_line, ReadsAhead}
 use Rattle.dp_io.proofs.FirstPlaces.{none-before}
-use Rattle.dp_io.proofs.RemainingText.{is_first_known, line-known, remaining-line, line-long, more-unknown, needs_read-unknown, emptied-at_end, remaining-read}
+use Rattle.dp_io.proofs.RemainingText.{is_first_known, line-known, remaining-line, line-long, unended-at_end, more-unknown, needs_read-unknown, emptied-at_end, remaining-read}
 use Rattle.dp_io.proofs.lines.Lines.next.Goals as goal
 
 pub returns-then-end-gt-MOST_LINE_BYTES-clause-too_long : goal.returns-then-end-gt-MOST_LINE_BYTES-clause-too_long
@@ -30,6 +30,13 @@ returns-then-is_line_end-clause-no_line_feed g c =
     let taken : c.take_line.new.self.line ≡ first_line c.pieces.self.read_ahead =
     ap (λ (lines : LinesValue). lines.line) c.take_line.ensures.line ∙ ap (λ (lines : LinesValue). first_line lines.read_ahead) c.first_line_end-end.ensures.same in
     rw taken (none-before is_line_feed c.pieces.self.read_ahead)
+
+pub returns-then-is_line_end-clause-unended : goal.returns-then-is_line_end-clause-unended
+returns-then-is_line_end-clause-unended g c = λ more text h none.
+    let known : is_first_known c.pieces.self ≡ true = rw (c.first_line_end-end.ensures.same, c.first_line_end-end.ensures.place) at (sym c.if-is_line_end.ensures) in
+    let end : c.take_line.new.self.at_end ≡ c.pieces.self.at_end =
+    ap (λ (lines : LinesValue). lines.at_end) c.take_line.ensures.line ∙ ap (λ (lines : LinesValue). lines.at_end) c.first_line_end-end.ensures.same in
+    end ∙ unended-at_end c.pieces.self _ text known (c.pieces.invariant.text ∙ h) none
 
 pub pieces-preserved : goal.pieces-preserved
 pieces-preserved g c =
