@@ -2,7 +2,6 @@ pub mod LineSteps
 pub mod Making
 pub mod MeasuredLines
 pub mod NoiseInputs
-pub mod OneMore
 pub mod ReleaseMaking
 pub mod ReleaseSteps
 pub mod SmallReleases

@@ -4,7 +4,6 @@ pub mod Line
 pub mod Lines
 pub mod LinesProof
 pub mod Meanings
-pub mod OneMore
 pub mod PartMeanings
 pub mod Release
 pub mod Releases

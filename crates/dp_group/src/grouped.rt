@@ -8,7 +8,7 @@ ghost use Rattle.dp_rowwise.specs.Parts.{category_texts};
 ghost use Rattle.dp_group.specs.Grouped.{TakesColumn, answers_on, are_group_texts, grouped, grouped_on};
 ghost use Rattle.dp_group.specs.ColumnProof.{TakesColumn-prop};
 
-use crate::groups::{count_of, groups_of, table_of};
+use crate::groups::{groups_of, table_of};
 use crate::input::ReleaseInput;
 use dp_count::{NoMemory, Shape};
 use dp_domain::{Domain, Metric, Texts, Value};
@@ -95,16 +95,16 @@ impl<M: Measurement> Measurement for Grouped<M> {
     }
 
     fn draws(&self) -> u64 {
-        u64::from(count_of(&self.texts)) * self.inner.draws()
+        u64::from(self.texts.len()) * self.inner.draws()
     }
 
     fn pieces(&self) -> u64 {
-        u64::from(count_of(&self.texts)) * self.inner.pieces()
+        u64::from(self.texts.len()) * self.inner.pieces()
     }
 
     fn shape(&self, alloc: Global) -> Result<Shape, NoMemory> {
         let shape = self.inner.shape(alloc)?;
-        repeated(alloc, &shape, count_of(&self.texts))
+        repeated(alloc, &shape, self.texts.len())
     }
 
     fn loss(&self, d: u64) -> Result<u64, Past> {

@@ -1,18 +1,18 @@
-ghost use Rattle.std.specs.Prelude.{◌≡◌, ◌≤◌, ◌<◌, ◌^◌, [], map, replicate, length, true, IfOk, OnOk};
+ghost use Rattle.std.specs.Prelude.{◌≡◌, ◌≤◌, ◌<◌, ◌^◌, map, length, true, IfOk, OnOk};
 ghost use Rattle.std.specs.List.{All};
 ghost use Rattle.dp_domain.specs.Distance.{text_eq};
 ghost use Rattle.dp_domain.specs.Users.{cell, group};
 ghost use Rattle.dp_domain.specs.declared.values.Value.TheVariants as value;
 ghost use Rattle.dp_law.specs.Making.{MakesOr};
 ghost use Rattle.dp_rowwise.specs.Categories.{are_different, place_in};
+ghost use Rattle.dp_rowwise.specs.OneMore.{with_one_more};
 ghost use Rattle.dp_rowwise.specs.Parts.{category_texts};
-ghost use Rattle.dp_chain.specs.OneMore.{with_one_more};
 ghost use Rattle.dp_group.specs.Grouped.{group_texts, groups_of};
 
 use dp_count::NoMemory;
 use dp_domain::{Domain, Duplicate, Metric, Record, Rows, Texts, Value};
-use dp_law::{MakeFault, Transformation};
-use dp_rowwise::Categories;
+use dp_law::MakeFault;
+use dp_rowwise::{Categories, empty_lists, put};
 use std::alloc::Global;
 
 /// The texts of groups, looked up by their hashes. `Bound` comes exactly where there are not 1 to 1,023, or two are
@@ -21,16 +21,6 @@ pub(crate) fn table_of(alloc: Global, texts: Texts) -> Result<Categories, MakeFa
     ensures { MakesOr category_texts result (group_texts texts) }
 {
     Categories::new(alloc, Domain::Texts, Metric::Symmetric, texts)
-}
-
-/// How many texts there are.
-pub(crate) fn count_of(texts: &Categories) -> u32
-    ensures { result ≡ length (category_texts texts.now) }
-{
-    let Domain::Cats { n, .. } = texts.out_domain() else {
-        unreachable!()
-    };
-    n - 1
 }
 
 /// For each text the records whose cell in the column, from 0, is the text, in order, as values. The records are gone
@@ -71,9 +61,9 @@ fn parts_of(
     ensures { IfOk result (λ groups. groups.items
         ≡ map (λ text. group text_eq (cell column) text rows.now) (category_texts texts.now)) }
 {
-    let mut groups = empty_groups(alloc, count_of(texts))?;
+    let mut groups = empty_lists(alloc, texts.len())?;
     for cells in rows {
-        put(alloc, &mut groups, place_of(texts, column, cells), cells)?;
+        put_copy(alloc, &mut groups, place_of(texts, column, cells), cells)?;
     }
     Ok(groups)
 }
@@ -86,24 +76,18 @@ fn place_of(texts: &Categories, column: u32, cells: &Record) -> usize
     texts.number(cells.at(u64::from(column)).as_slice()) as usize
 }
 
-/// So many groups without a record.
-fn empty_groups(alloc: Global, count: u32) -> Result<Vec<Rows>, NoMemory>
-    ensures { IfOk result (λ groups. groups.items ≡ replicate count []) }
-{
-    let mut groups = Vec::new(alloc);
-    for _turn in 0..count {
-        groups.push(Rows::new(alloc))?;
-    }
-    Ok(groups)
-}
-
 /// Appends a copy of the record to the group at the place, where there is one.
-fn put(alloc: Global, groups: &mut Vec<Rows>, place: usize, cells: &Record) -> Result<(), NoMemory>
+fn put_copy(
+    alloc: Global,
+    groups: &mut Vec<Rows>,
+    place: usize,
+    cells: &Record,
+) -> Result<(), NoMemory>
     requires { All (λ group. length group < 2 ^ 32) groups.old.items }
     ensures { OnOk result (groups.new.items ≡ with_one_more place cells.now groups.old.items) }
 {
     if place < groups.len() {
-        groups[place].push(cells.duplicate(alloc)?)?;
+        put(groups, place, cells.duplicate(alloc)?)?;
     }
     Ok(())
 }

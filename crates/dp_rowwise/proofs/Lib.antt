@@ -1,4 +1,5 @@
 pub mod Comparing
 pub mod Examples
+pub mod OneMore
 pub mod Ordered
 pub mod Places

@@ -13,6 +13,7 @@ pub mod Filter
 pub mod FilterProof
 pub mod Impute
 pub mod ImputeProof
+pub mod OneMore
 pub mod Parts
 pub mod Persons
 pub mod Select

@@ -1,3 +1,4 @@
+ghost use Rattle.std.proofs.Props.{props};
 ghost use Rattle.std.specs.Prelude.{◌≡◌, ◌≤◌, ◌+◌, true, false, length, map, IfOk, MatchOption, None};
 ghost use Rattle.dp_domain.specs.Domains.{Fits};
 ghost use Rattle.dp_domain.specs.declared.domains.Domain.TheVariants as domain;
@@ -18,6 +19,7 @@ use std::alloc::Global;
 pub struct Categories {
     table: Table,
     ghost fits: { Fits (domain.Cats (length table + 1) None) } by { Fits-prop (domain.Cats (length table + 1) None) },
+    ghost different: { are_different table ≡ true } by { Prim.hlevel props },
 }
 
 impl Categories {
@@ -51,6 +53,15 @@ impl Categories {
         Ok(Categories { table })
     }
 
+    /// How many texts there are, from 1 to 1,023.
+    pub fn len(&self) -> u32
+        ensures len { result ≡ length (category_texts self.now) }
+        ensures some { 1 ≤ result }
+        ensures few { result ≤ 1023 }
+    {
+        self.table.len() as u32
+    }
+
     /// The place of a text among the texts, from 0, or their number where it is not there.
     pub fn number(&self, text: &[u8]) -> u32
         ensures value { result ≡ place_in (category_texts self.now) text.now }
@@ -77,7 +88,7 @@ impl Transformation for Categories {
 
     fn out_domain(&self) -> Domain {
         Domain::Cats {
-            n: self.table.len() as u32 + 1,
+            n: self.len() + 1,
             size: None,
         }
     }

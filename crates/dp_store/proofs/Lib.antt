@@ -1,5 +1,6 @@
 pub mod AllNumbers
 pub mod ChosenRows
+pub mod GroupedRows
 pub mod LineParts
 pub mod Passes
 pub mod RecordPasses

@@ -5,6 +5,7 @@
 
 mod chosen;
 mod element;
+mod groups;
 mod held;
 mod lines;
 mod listing;

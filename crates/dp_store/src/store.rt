@@ -9,16 +9,18 @@ ghost use Rattle.dp_domain.specs.declared.values.Value.TheVariants as value;
 ghost use Rattle.dp_io.specs.Shelf.{KeepsRest};
 ghost use Rattle.dp_records.specs.Records.{records, rows_of, all_cells, HoldsRecords};
 ghost use Rattle.dp_rowwise.specs.Filter.{filter_value};
+ghost use Rattle.dp_rowwise.specs.Parts.{category_texts};
 ghost use Rattle.dp_rowwise.specs.Truncate.{record_at, truncate_value};
 ghost use Rattle.dp_store.specs.Selections.{IsSelection, selected, has_text, number_at};
 
 use crate::chosen::Chosen;
+use crate::groups::{numbers_by_text, selections};
 use crate::selection::Selection;
 use dp_count::NoMemory;
 use dp_domain::{Domain, Record, Rows, Text, Value};
 use dp_io::{Shelf, Slot};
 use dp_records::{DataFault, Packed, cells_of, read_cells};
-use dp_rowwise::kept_places;
+use dp_rowwise::{Categories, kept_places};
 use std::alloc::Global;
 use std::marker::Model;
 
@@ -178,6 +180,27 @@ impl Store {
     {
         let chosen = matching(alloc, self, base, column, text)?;
         Ok(Selection::these(chosen)?)
+    }
+
+    /// For each text the selected records whose cell in the column is the text, byte for byte, in order. The selected
+    /// records are gone through once.
+    pub fn groups(
+        &self,
+        alloc: Global,
+        base: &Selection,
+        column: u32,
+        texts: &Categories,
+    ) -> Result<Vec<Selection>, NoMemory>
+        requires base { IsSelection self.now.records base.now }
+        requires column { column < self.now.columns }
+        ensures records { IfOk result (λ groups.
+            map (λ group. value.Rows (selected self.now.records group)) groups.items
+            ≡ map (λ text. filter_value column text (value.Rows (selected self.now.records base.now)))
+            (category_texts texts.now)) }
+        ensures selections { IfOk result (λ groups. All (IsSelection self.now.records) groups.items) }
+    {
+        let lists = numbers_by_text(alloc, self, base, column, texts)?;
+        selections(alloc, lists)
     }
 
     /// The least ones of the selected records, at most so many, from 1 to 2^20, of each person, whom the cell in the

@@ -11,6 +11,7 @@ use std::alloc::Global;
 use std::process::Abort;
 use std::test::Fail;
 
+mod groups;
 mod scan;
 
 /// Five records of two persons, whom the first column names.

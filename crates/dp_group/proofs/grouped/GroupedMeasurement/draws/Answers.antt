@@ -6,5 +6,5 @@ use Rattle.dp_group.proofs.grouped.GroupedMeasurement.draws.Goals as goal
 pub returns : goal.returns
 returns g c =
     let m = g.M.Measurement.mechanism c.args.self.now.inner in
-    rw (length-repeat (length (category_texts c.args.self.now.texts)) m.shape, ← c.draws.ensures, ← c.count_of.ensures)
+    rw (length-repeat (length (category_texts c.args.self.now.texts)) m.shape, ← c.draws.ensures, ← c.len.ensures.len)
     (ap (λ n. n * c.draws.result) c.from.ensures)

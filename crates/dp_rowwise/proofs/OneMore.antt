@@ -11,7 +11,7 @@ use Rattle.dp_domain.specs.Distance.{text_eq}
 use Rattle.dp_domain.specs.Users.{group}
 use Rattle.dp_domain.proofs.Equality.{text_eq-decides}
 use Rattle.dp_rowwise.specs.Categories.{place_in, are_different}
-use Rattle.dp_chain.specs.OneMore.{with_one_more}
+use Rattle.dp_rowwise.specs.OneMore.{with_one_more}
 
 -- before the first element each group is empty
 pub groups-none : {X Y : Type 0} (texts : List X)
