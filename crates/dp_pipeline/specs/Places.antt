@@ -16,7 +16,8 @@ pub record PlaceValue : Type 0 where
 -- what a transformation gives at a distance, where its stability map has a number
 abbrev pub after_mapping : ℕ → Result Mapping Refused → Option PlaceValue
 after_mapping distance (Ok m) =
-    option_map (λ next. record { domain = m.output_domain; metric = m.output_metric; distance = next }) (m.stability_map distance)
+    option_map (λ next. record { domain = m.output_domain; metric = m.output_metric; distance = next })
+    (m.stability_map distance)
 after_mapping distance (Err refusal) = None
 
 -- where a stage leads, if it is made

@@ -40,7 +40,8 @@ domain_text (domain.Cats n size) = codes "cats " ++ (fmt.decimal n ++ size_text 
 domain_text (domain.Int lo hi) = codes "int " ++ (fmt.signed_decimal lo ++ (codes " " ++ fmt.signed_decimal hi))
 domain_text (domain.Cat n) = codes "cat " ++ fmt.decimal n
 domain_text (domain.IntVec len lo hi) =
-    codes "intvec " ++ (fmt.decimal len ++ (codes " " ++ (fmt.signed_decimal lo ++ (codes " " ++ fmt.signed_decimal hi))))
+    codes "intvec "
+    ++ (fmt.decimal len ++ (codes " " ++ (fmt.signed_decimal lo ++ (codes " " ++ fmt.signed_decimal hi))))
 
 unfoldable pub metric_text : Metric → List ℕ
 metric_text metrics.Symmetric = codes "symmetric"

@@ -27,8 +27,8 @@ use std::alloc::Global;
 /// Writes the stages of a pipeline: a line each for the root, its budget, siblings in version 2, each plan, its stages
 /// and its noises, and a last line.
 ///
-/// `WriteFault` comes only where the sink's count of faults rose; a front of the text is written then. `NoMemory` writes
-/// nothing.
+/// `WriteFault` comes only where the sink's count of faults rose; a front of the text is written then. `NoMemory`
+/// writes nothing.
 #[tactic(auto, unfolding(crate::specs::Printing::check_text))]
 pub fn print_stages<K: Sink>(
     alloc: Global,

@@ -165,7 +165,8 @@ fn has_open(value: &Value) -> bool
 
 /// The stages of a child's line.
 fn stages_at(alloc: Global, columns: &[Text], value: &Value) -> Result<Option<Stages>, NoMemory>
-    ensures { IfOk result (λ found. found ≡ member_by (list_of (stage_of columns.now)) (codes "open") (view value.now)) }
+    ensures { IfOk result (λ found.
+        found ≡ member_by (list_of (stage_of columns.now)) (codes "open") (view value.now)) }
 {
     match member(value, "open") {
         Some(line) => list(alloc, columns, line),

@@ -20,7 +20,8 @@ fn refusal(alloc: Global, text: &[u8]) -> Result<u8, NoMemory> {
 /// A pipeline of these columns, root and plans, each as JSON, without a header, at the distance 1 by 1/2.
 fn pipeline(alloc: Global, columns: &str, root: &str, plans: &str) -> Result<String, NoMemory> {
     Ok(format!(in alloc;
-        "{{\"version\":1,\"columns\":{columns},\"header\":false,\"ratio\":[1,2],\"distance\":1,\"root\":{root},\"plans\":{plans}}}"
+        "{{\"version\":1,\"columns\":{columns},\"header\":false,\"ratio\":[1,2],
+\"distance\":1,\"root\":{root},\"plans\":{plans}}}"
     )?)
 }
 

@@ -177,7 +177,8 @@ impl Tree {
         ensures verdict { OpensBy self.old node distance mapped budget.rule (result_err result) }
         ensures opened { OnOk result (self.new ≡ opened self.old node query (given domain metric distance budget)) }
         ensures kept { OnErr result (self.new ≡ self.old) }
-        ensures stands { StandsIfOk result self.old (Open query node (given domain metric distance budget) mapped) self.new }
+        ensures stands { StandsIfOk result self.old (Open query node (given domain metric distance budget) mapped)
+            self.new }
     {
         let at = self.place(node);
         let depth = self.states.at(u64::from(at)).depth;

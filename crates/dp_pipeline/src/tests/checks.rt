@@ -6,10 +6,14 @@ use std::process::Abort;
 use std::test::Fail;
 
 const CENSUS: &str =
-    r#"{"version":1,"columns":["sex","age","district"],"header":true,"ratio":[9,10],"distance":1,"root":["filter",20],"plans":{"women":[["filter","sex","F"],["count"],["geometric",1,0,12]]}}"#;
+    r#"{"version":1,"columns":["sex","age","district"],"header":true,"ratio":[9,10],
+"distance":1,"root":["filter",20],
+"plans":{"women":[["filter","sex","F"],["count"],["geometric",1,0,12]]}}"#;
 
 const PERSONS: &str =
-    r#"{"version":1,"columns":["id","item"],"header":false,"user":"id","ratio":[1,2],"distance":1,"root":["odometer"],"plans":{"p":[["truncate",2],["count"],["geometric",1,0,5]]}}"#;
+    r#"{"version":1,"columns":["id","item"],"header":false,"user":"id","ratio":[1,2],
+"distance":1,"root":["odometer"],
+"plans":{"p":[["truncate",2],["count"],["geometric",1,0,5]]}}"#;
 
 /// What is printed of a pipeline.
 fn printed(rt: &impl Abort, alloc: Global, text: &str) -> MemSink {
@@ -26,16 +30,28 @@ fn printed(rt: &impl Abort, alloc: Global, text: &str) -> MemSink {
 #[test]
 fn the_stages_of_the_census_are_printed(rt: HostRuntime) {
     let out = printed(&rt, rt.alloc(), CENSUS);
-    let wanted =
-        "root rows 3 symmetric 1\nbudget filter 20\nplan women\nfilter rows 3 symmetric 1\ncount int 0 1073741824 absolute 1\ngeometric draws 13 loss 1\naccepted\n";
+    let wanted = "root rows 3 symmetric 1
+budget filter 20
+plan women
+filter rows 3 symmetric 1
+count int 0 1073741824 absolute 1
+geometric draws 13 loss 1
+accepted
+";
     assert_eq!(rt; out.held(), wanted.as_bytes());
 }
 
 #[test]
 fn the_stages_of_persons_are_printed(rt: HostRuntime) {
     let out = printed(&rt, rt.alloc(), PERSONS);
-    let wanted =
-        "root rows 2 users 0 1\nbudget odometer\nplan p\ntruncate rows 2 symmetric 4\ncount int 0 1073741824 absolute 4\ngeometric draws 6 loss 4\naccepted\n";
+    let wanted = "root rows 2 users 0 1
+budget odometer
+plan p
+truncate rows 2 symmetric 4
+count int 0 1073741824 absolute 4
+geometric draws 6 loss 4
+accepted
+";
     assert_eq!(rt; out.held(), wanted.as_bytes());
 }
 
@@ -55,7 +71,8 @@ fn version_2_prints_what_it_says_of_siblings(rt: HostRuntime) {
 
 fn siblings(alloc: Global, word: &str) -> Result<String, NoMemory> {
     Ok(format!(in alloc;
-        "{{\"version\":2,\"siblings\":\"{word}\",\"columns\":[\"sex\"],\"header\":false,\"ratio\":[1,2],\"distance\":1,\"root\":[\"compositor\",[2,1]]}}"
+        "{{\"version\":2,\"siblings\":\"{word}\",\"columns\":[\"sex\"],\"header\":false,
+\"ratio\":[1,2],\"distance\":1,\"root\":[\"compositor\",[2,1]]}}"
     )?)
 }
 
@@ -67,11 +84,42 @@ fn siblings_printed(alloc: Global, line: &str) -> Result<String, NoMemory> {
 fn every_stage_every_domain_and_an_all_are_printed(rt: HostRuntime) {
     let text =
         r#"{"version":1,"columns":["sex","age"],"header":false,"ratio":[1,2],"distance":3,"root":["odometer"],"plans":{
-        "b":["all",[["select","age"],["cast"],["dropnone"],["clamp",-5,10],["bins",[0,5]],["histogram"],["choice",1,0,10]],
+        "b":["all",[["select","age"],["cast"],["dropnone"],["clamp",-5,10],["bins",[0,5]],["histogram"],
+                    ["choice",1,0,10]],
                    [["select","sex"],["categories",["F","M"]],["histogram"],["geometric",1,0,4]]],
-        "a":["all",[["select","age"],["cast"],["impute",0],["resize",4,1],["clamp",0,9],["sum"],["quantise",2],["atleast",[1,2]],["response",2]]]}}"#;
-    let wanted =
-        "root rows 2 symmetric 3\nbudget odometer\nplan a\npart 1\nselect texts symmetric 3\ncast optints -2147483648 2147483648 symmetric 3\nimpute ints -2147483648 2147483648 symmetric 3\nresize ints -2147483648 2147483648 size 4 change-one 3\nclamp ints 0 9 size 4 change-one 3\nsum int 0 36 absolute 27\nquantise int 0 18 absolute 14\natleast cat 3 discrete 1\nresponse draws 1 loss 2\nall draws 1 loss 2\nplan b\npart 1\nselect texts symmetric 3\ncast optints -2147483648 2147483648 symmetric 3\ndropnone ints -2147483648 2147483648 symmetric 3\nclamp ints -5 10 symmetric 3\nbins cats 3 symmetric 3\nhistogram intvec 3 0 1073741824 l1 3\nchoice draws 1 loss 7\npart 2\nselect texts symmetric 3\ncategories cats 3 symmetric 3\nhistogram intvec 3 0 1073741824 l1 3\ngeometric draws 15 loss 3\nall draws 16 loss 10\naccepted\n";
+        "a":["all",[["select","age"],["cast"],["impute",0],["resize",4,1],["clamp",0,9],["sum"],
+                    ["quantise",2],["atleast",[1,2]],["response",2]]]}}"#;
+    let wanted = "root rows 2 symmetric 3
+budget odometer
+plan a
+part 1
+select texts symmetric 3
+cast optints -2147483648 2147483648 symmetric 3
+impute ints -2147483648 2147483648 symmetric 3
+resize ints -2147483648 2147483648 size 4 change-one 3
+clamp ints 0 9 size 4 change-one 3
+sum int 0 36 absolute 27
+quantise int 0 18 absolute 14
+atleast cat 3 discrete 1
+response draws 1 loss 2
+all draws 1 loss 2
+plan b
+part 1
+select texts symmetric 3
+cast optints -2147483648 2147483648 symmetric 3
+dropnone ints -2147483648 2147483648 symmetric 3
+clamp ints -5 10 symmetric 3
+bins cats 3 symmetric 3
+histogram intvec 3 0 1073741824 l1 3
+choice draws 1 loss 7
+part 2
+select texts symmetric 3
+categories cats 3 symmetric 3
+histogram intvec 3 0 1073741824 l1 3
+geometric draws 15 loss 3
+all draws 16 loss 10
+accepted
+";
     let out = printed(&rt, rt.alloc(), text);
     assert_eq!(rt; out.held(), wanted.as_bytes());
 }

@@ -15,7 +15,12 @@ fn each_stage_is_refused_by_its_row(rt: HostRuntime) -> Result<(), Fail> {
         ("", "[\"cast\"]", 1),
         ("", "[\"categories\",[\"a\"]]", 1),
         ("[\"select\",\"sex\"],", "[\"categories\",[]]", 3),
-        ("[\"select\",\"sex\"],", "[\"categories\",[\"a\",\"a\"]]", 3),
+        (
+            "[\"select\",\"sex\"],",
+            "
+[\"categories\",[\"a\",\"a\"]]",
+            3,
+        ),
         ("", "[\"impute\",0]", 1),
         ("AGES,", "[\"impute\",2147483649]", 3),
         ("", "[\"dropnone\"]", 1),
@@ -106,8 +111,9 @@ fn a_loss_past_2_to_the_32_is_refused_before_too_many_draws(rt: HostRuntime) -> 
         plan.push_str("]")?;
         assert_eq!(rt; plan_refusal(alloc, plan.as_str())?, wanted);
     }
-    let vector =
-        "[\"select\",\"sex\"],[\"categories\",[\"a\",\"b\",\"c\",\"d\",\"e\",\"f\",\"g\",\"h\",\"i\",\"j\",\"k\",\"l\",\"m\",\"n\",\"o\",\"p\"]],[\"histogram\"]";
+    let vector = "[\"select\",\"sex\"],
+[\"categories\",[\"a\",\"b\",\"c\",\"d\",\"e\",\"f\",\"g\",\"h\",\"i\",\"j\",\"k\",\"l\",\"m\",\"n\",\"o\",\"p\"]],
+[\"histogram\"]";
     let draws = format!(in alloc; "[{vector},[\"geometric\",1,0,65535]]")?;
     assert_eq!(rt; plan_refusal(alloc, draws.as_str())?, 5);
     Ok(())
@@ -148,7 +154,8 @@ fn under_persons_a_plan_has_to_truncate(rt: HostRuntime) -> Result<(), Fail> {
         ("[\"select\",\"item\"],", 2),
     ] {
         let text = format!(in alloc;
-            "{{\"version\":1,\"columns\":[\"id\",\"item\"],\"header\":false,\"user\":\"id\",\"ratio\":[1,2],\"distance\":1,\"root\":[\"odometer\"],\"plans\":{{\"p\":[{stages}{NOISY_COUNT}]}}}}"
+            "{{\"version\":1,\"columns\":[\"id\",\"item\"],\"header\":false,\"user\":\"id\",
+\"ratio\":[1,2],\"distance\":1,\"root\":[\"odometer\"],\"plans\":{{\"p\":[{stages}{NOISY_COUNT}]}}}}"
         )?;
         assert_eq!(rt; refusal(alloc, text.as_bytes())?, wanted);
     }

@@ -5,8 +5,9 @@ use std::process::Abort;
 
 /// A pipeline with one plan, an `all` of two parts.
 fn census(rt: &impl Abort, alloc: Global) -> Pipeline {
-    let text =
-        r#"{"version":1,"columns":["sex","age"],"header":true,"ratio":[9,10],"distance":1,"root":["filter",20],"plans":{"women":["all",[["filter","sex","F"],["count"],["geometric",1,0,12]],[["count"],["geometric",2,0,5]]]}}"#;
+    let text = r#"{"version":1,"columns":["sex","age"],"header":true,"ratio":[9,10],
+"distance":1,"root":["filter",20],
+"plans":{"women":["all",[["filter","sex","F"],["count"],["geometric",1,0,12]],[["count"],["geometric",2,0,5]]]}}"#;
     match read_pipeline(alloc, text.as_bytes()) {
         Ok(pipeline) => pipeline,
         Err(_) => panic!(rt; "a pipeline"),

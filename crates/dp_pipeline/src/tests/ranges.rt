@@ -61,7 +61,8 @@ fn a_ratio_is_from_1_to_65536_and_below_one(rt: HostRuntime) -> Result<(), Fail>
         ("[1,4294967297]", 7),
     ] {
         let text = format!(in rt.alloc();
-            "{{\"version\":1,\"columns\":[\"a\"],\"header\":true,\"ratio\":{ratio},\"distance\":4294967296,\"root\":[\"odometer\"]}}"
+            "{{\"version\":1,\"columns\":[\"a\"],\"header\":true,\"ratio\":{ratio},
+\"distance\":4294967296,\"root\":[\"odometer\"]}}"
         )?;
         assert_eq!(rt; refusal(rt.alloc(), text.as_bytes())?, wanted);
     }
