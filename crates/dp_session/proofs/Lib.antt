@@ -14,6 +14,10 @@ pub mod Replies
 pub mod Roots
 pub mod ServedLines
 pub mod ServedTasks
+pub mod SinglePlans
+pub mod SinglePrivacy
+pub mod SingleReleases
+pub mod SingleTexts
 pub mod Standing
 pub mod Transcripts
 pub mod Verdicts

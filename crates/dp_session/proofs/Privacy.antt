@@ -96,7 +96,7 @@ abbrev KeepsAt : Content → List (List ℕ) → Value → Value → Result Gran
 KeepsAt pipeline past v w r = (reply : Reply) → KeepsRatio pipeline.p pipeline.q (loss_of r)
     (verdict_ways r (value_at v (granted pipeline past)) reply) (verdict_ways r (value_at w (granted pipeline past)) reply)
 
-few-bounds : (n : ℕ) → few_parts n ≡ true → (1 ≤ n) × (n ≤ 16)
+pub few-bounds : (n : ℕ) → few_parts n ≡ true → (1 ≤ n) × (n ≤ 16)
 few-bounds n h =
     let both = and_parts (nat_le 1 n) (nat_le n 16) h in (grind (arith, nat_tests, both), grind (arith, nat_tests, both))
 
@@ -188,7 +188,7 @@ records-privacy bytes pipeline is xs ys one other near lines wanted =
     (root-close pipeline xs ys (columns_few pipeline in_range) one other near) lines wanted
 
 -- every text has records of the root's domain
-text-has : (pipeline : Content) (text : List ℕ) → Has (root_domain pipeline) (value.Rows (text_records pipeline text))
+pub text-has : (pipeline : Content) (text : List ℕ) → Has (root_domain pipeline) (value.Rows (text_records pipeline text))
 text-has pipeline text = (records-few (2 ^ 30) (length pipeline.columns) pipeline.header text, records-AllOf (2 ^ 30) (length pipeline.columns) pipeline.header text)
 
 pub texts-privacy : PrivacyLaw

@@ -9,6 +9,8 @@ pub mod SessionLines
 pub mod Sessions
 pub mod Serving
 pub mod Settling
+pub mod SinglePrivacy
+pub mod Singles
 pub mod Transcripts
 pub mod Values
 pub mod Works

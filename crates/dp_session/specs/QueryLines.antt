@@ -18,7 +18,8 @@ refusal_text (refusal.Frozen ancestor later) =
 refusal_text (refusal.Construction number) = codes "4 construction " ++ fmt.decimal number
 refusal_text refusal.Depth = codes "5 depth"
 refusal_text (refusal.ChildDistance mapped) = codes "6 child-distance " ++ fmt.decimal mapped
-refusal_text (refusal.Budget over) = codes "7 budget " ++ (fmt.decimal over.cost ++ (codes " " ++ fmt.decimal over.left))
+refusal_text (refusal.Budget over) =
+    codes "7 budget " ++ (fmt.decimal over.cost ++ (codes " " ++ fmt.decimal over.left))
 
 -- the cost of an accepted query, and what the root has spent after it
 abbrev pub cost_text : ℕ → ℕ → List ℕ

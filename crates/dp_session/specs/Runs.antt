@@ -14,7 +14,8 @@ use Rattle.dp_session.specs.Verdicts.{Grant, Task, Release, Child, granted, verd
 
 -- ---- values
 
--- the value of node i after an accepted query, by the values before it: a child's is what its line gives of its parent's
+-- the value of node i after an accepted query, by the values before it: a child's is what its line gives of its
+-- parent's
 abbrev pub value_after : Task → Event → (ℕ → Value) → ℕ → Value
 value_after (Release release) event before i = before i
 value_after (Child line) event before i =

@@ -88,8 +88,8 @@ after_draws (Some draws) last text rest = preceded (text draws) (rest last)
 abbrev pub after_taken : Taken → (List ℕ → List ℕ) → (List ℕ → Ran) → Ran
 after_taken taken text rest = after_draws taken.draws taken.last text rest
 
--- lines from a source in a state: the draws of a line are taken before it is written, and where the source fails nothing
--- more is written
+-- lines from a source in a state: the draws of a line are taken before it is written, and where the source fails
+-- nothing more is written
 unfoldable pub run_slots : (List ℕ → ℕ → Turn) → List (Slot (List ℕ)) → List ℕ → Ran
 run_slots step [] state = record { bytes = []; enough = true; last = state }
 run_slots step (slot ∷ slots) state =

@@ -71,8 +71,8 @@ pub record IsSessionAt (session : SessionValue) (pipeline : Content) (rows : Lis
   pub records_are : session.store.records ≡ rows
   pub at : AreAt session.queries session.store session.values past
 
--- the selection that is held of a node after some lines on records, if there is one: it selects the node's value, and there
--- is one exactly where a query may be addressed to the node and its value is one of records
+-- the selection that is held of a node after some lines on records, if there is one: it selects the node's value, and
+-- there is one exactly where a query may be addressed to the node and its value is one of records
 abbrev pub Selects : Option (List ℕ) → Content → List (List (List ℕ)) → List (List ℕ) → ℕ → Type 0
 Selects (Some chosen) pipeline rows past node =
     (node_fault pipeline past node ≡ None)
@@ -93,11 +93,11 @@ abbrev pub Gives : Drawing → List ℕ → Option (List ℕ) → Type 0
 Gives source shape draws =
     take_draws source.step source.before shape ≡ record { draws = draws; last = source.after }
 
--- what a call that answers a line of a standing session leaves of its draw source and its output, where the slot has the
--- bounds of the line's draws and what is written by them. After Ok the draws were taken and the output gained the line;
--- after a draw fault they could not be taken, and nothing was written; after a write fault they were, and a front of the
--- line was written; without memory some first part of them was taken, and nothing was written. It does not answer that
--- the session has ended
+-- what a call that answers a line of a standing session leaves of its draw source and its output, where the slot has
+-- the bounds of the line's draws and what is written by them. After Ok the draws were taken and the output gained the
+-- line; after a draw fault they could not be taken, and nothing was written; after a write fault they were, and a front
+-- of the line was written; without memory some first part of them was taken, and nothing was written. It does not
+-- answer that the session has ended
 abbrev pub AnswersLine : Result (Unit {0}) SessionFault → Drawing → Slot (List ℕ)
     → Option (List ℕ) → Option (List ℕ) → Type 0
 AnswersLine (Ok done) source slot old new =

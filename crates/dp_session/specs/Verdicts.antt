@@ -32,8 +32,8 @@ use Rattle.dp_session.specs.declared.refusal.Refusal.TheVariants as refusal
 
 -- ---- one query
 
--- what an accepted query asks for: a release on the value of a node, or a child, whose value is what a line gives of the
--- node's
+-- what an accepted query asks for: a release on the value of a node, or a child, whose value is what a line gives of
+-- the node's
 pub data Task : Type 0 where
   Release : Mechanism → Task
   Child : Mapping → Task
@@ -43,8 +43,8 @@ pub record Grant : Type 0 where
   pub event : Event
   pub task : Task
 
--- what the accepted queries so far tell of the nodes: why no query may be addressed to one, where its releases and lines
--- are made, and why a cost or a child is refused there
+-- what the accepted queries so far tell of the nodes: why no query may be addressed to one, where its releases and
+-- lines are made, and why a cost or a child is refused there
 pub record Nodes : Type 0 where
   pub fault : ℕ → Option FindFault
   pub place : ℕ → Option PlaceValue

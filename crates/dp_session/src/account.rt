@@ -123,7 +123,8 @@ fn line_text<L: Ledger>(
     requires few { queries.old.answered < 2 ^ 20 }
     ensures text { (past : List (List ℕ)) → StandAt queries.old past
         → IfOk result (λ text. string_bytes text ≡ account_line queries.old.pipeline past line.now) }
-    ensures stands { (past : List (List ℕ)) → StandAt queries.old past → OnOk result (StandAt queries.new (line.now ∷ past)) }
+    ensures stands { (past : List (List ℕ)) → StandAt queries.old past
+        → OnOk result (StandAt queries.new (line.now ∷ past)) }
     ensures same { queries.new.pipeline ≡ queries.old.pipeline }
     ensures counted { queries.new.answered ≡ queries.old.answered + 1 }
 {

@@ -1,4 +1,4 @@
-ghost use Rattle.std.specs.Prelude.{◌≡◌, ◌+◌, ◌≤◌, ◌^◌, None, length, IfOk, OnOk, IsSome};
+ghost use Rattle.std.specs.Prelude.{◌≡◌, ◌+◌, ◌≤◌, ◌^◌, None, Some, length, IfOk, OnOk, IsSome};
 ghost use Rattle.dp_budget.specs.Rules.{fresh, declared};
 ghost use Rattle.dp_chain.specs.Meanings.{fraction_of};
 ghost use Rattle.dp_chain.specs.Lines.{line_on};
@@ -15,7 +15,7 @@ use crate::refusal::Refusal;
 use crate::task::Task;
 use crate::work::Work;
 use dp_budget::Budget;
-use dp_chain::{CostFault, Line, Release, ReleaseSpec, Stages};
+use dp_chain::{CostFault, Line, Release, ReleaseSpec, Stages, cost_of};
 use dp_law::{MakeFault, Measurement, Transformation};
 use dp_num::{Ratio, Steps};
 use dp_pipeline::{Pipeline, Place, Query, QueryFault, read_query};
@@ -182,7 +182,7 @@ fn place_at<L: Ledger>(tree: &Tree, node: u64, steps: &mut Steps<L>) -> Result<P
 }
 
 /// The release of a spec at a place.
-fn make_release(
+pub(crate) fn make_release(
     alloc: Global,
     ratio: Ratio,
     at: &Place,
@@ -190,8 +190,12 @@ fn make_release(
 ) -> Result<Release, JudgeFault>
     requires some { 1 ≤ length spec.now }
     requires few { length spec.now ≤ 16 }
-    ensures { MadeOr ⟦<Release as Measurement>⟧.mechanism result
+    ensures made { MadeOr ⟦<Release as Measurement>⟧.mechanism result
         (made_or part_refused (release_on (fraction_of ratio) spec.now at.now.domain at.now.metric)) }
+    ensures nothing_at_0 { IfOk result (λ release. let m = ⟦<Release as Measurement>⟧.mechanism release in
+        m.privacy_map 0 ≡ Some 0) }
+    ensures few_pieces { IfOk result (λ release. let m = ⟦<Release as Measurement>⟧.mechanism release in
+        m.pieces ≤ 16) }
 {
     match Release::make(alloc, at.domain(), at.metric(), ratio, spec) {
         Ok(release) => Ok(release),
@@ -211,7 +215,7 @@ fn make_line(alloc: Global, at: &Place, stages: &Stages) -> Result<Line, JudgeFa
 }
 
 /// The refusal of a part that is not made.
-fn not_made(fault: MakeFault) -> JudgeFault
+pub(crate) fn not_made(fault: MakeFault) -> JudgeFault
     ensures { result ≡ not_made fault }
 {
     match fault {
@@ -222,14 +226,13 @@ fn not_made(fault: MakeFault) -> JudgeFault
     }
 }
 
-/// What a release costs on values within a distance.
-fn cost_at(release: &Release, distance: u64) -> Result<u64, Refusal>
+/// What a measurement costs on values within a distance.
+pub(crate) fn cost_at<M: Measurement>(measurement: &M, distance: u64) -> Result<u64, Refusal>
     requires { distance ≤ 2 ^ 32 }
-    ensures cost { let m = ⟦<Release as Measurement>⟧.mechanism release.now in
-        result ≡ made_or cost_refused (cost_of m distance) }
+    ensures cost { result ≡ made_or cost_refused (cost_of (M.mechanism measurement.now) distance) }
     ensures range { IfOk result (λ cost. cost ≤ 2 ^ 32) }
 {
-    match release.cost(distance) {
+    match cost_of(measurement, distance) {
         Ok(cost) => Ok(cost),
         Err(CostFault::Distance) => Err(Refusal::Construction(4)),
         Err(CostFault::Draws) => Err(Refusal::Construction(5)),

@@ -2,6 +2,7 @@
 ghost use Rattle.dp_session.specs.Privacy.{SameReplyLaw, HistoryLaw, NodeValuesLaw, TextValuesLaw};
 ghost use Rattle.dp_session.specs.Privacy.{PrivacyLaw, RecordsPrivacyLaw};
 ghost use Rattle.dp_session.specs.RunWays.{RunWaysLaw};
+ghost use Rattle.dp_session.specs.SinglePrivacy.{PostPrivacyLaw, GroupPrivacyLaw, PlanRefusalLaw};
 ghost use Rattle.dp_session.specs.PrivacyEdges.{EdgeLaw};
 ghost use Rattle.dp_session.specs.Transcripts.{TranscriptLaw, SessionShapeLaw};
 
@@ -30,6 +31,15 @@ pub fn privacy_law()
     ensures records { RecordsPrivacyLaw }
 {}
 
+/// Of every accepted pipeline, each accepted release of a plan, with its answer changed after or on the groups of a
+/// column, is private at its cost: on all data texts within the pipeline's distance and for all answers the numbers of
+/// draw lists that give an answer keep the ratio. A plan's release alone is refused for its cost or not at all.
+pub fn single_law()
+    ensures post { PostPrivacyLaw }
+    ensures group { GroupPrivacyLaw }
+    ensures refusal { PlanRefusalLaw }
+{}
+
 /// At one pipeline and one query the ratio is met with nothing to spare.
 pub fn edge_law()
     ensures { EdgeLaw }
@@ -55,6 +65,9 @@ mod tests {
         ensures text_values { TextValuesLaw }
         ensures texts { PrivacyLaw }
         ensures records { RecordsPrivacyLaw }
+        ensures post { PostPrivacyLaw }
+        ensures group { GroupPrivacyLaw }
+        ensures refusal { PlanRefusalLaw }
         ensures edge { EdgeLaw }
         ensures lines { TranscriptLaw }
         ensures shape { SessionShapeLaw }
@@ -62,6 +75,7 @@ mod tests {
         ways_law();
         nodes_law();
         privacy_law();
+        single_law();
         edge_law();
         transcript_law();
     }

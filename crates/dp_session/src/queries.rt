@@ -117,7 +117,7 @@ fn root_tree(alloc: Global, pipeline: &Pipeline) -> Result<Tree, NoMemory>
 }
 
 /// A budget of a pipeline's rule, of which nothing is spent.
-fn root_budget(alloc: Global, root: &RootSpec) -> Result<Budget, NoMemory>
+pub(crate) fn root_budget(alloc: Global, root: &RootSpec) -> Result<Budget, NoMemory>
     requires range { is_rule root.now ≡ true }
     requires limit { IsLimit root.now }
     ensures { IfOk result (λ budget. budget ≡ fresh root.now) }

@@ -21,9 +21,9 @@ use std::alloc::Global;
 
 /// A node's value, as it is held over the records of a store.
 #[derive(Clone, Copy)]
-struct NodeValue<'a> {
-    store: &'a Store,
-    held: &'a Held,
+pub(crate) struct NodeValue<'a> {
+    pub(crate) store: &'a Store,
+    pub(crate) held: &'a Held,
 }
 
 impl Input for NodeValue<'_> {
@@ -150,7 +150,7 @@ fn release_text<D: Draws>(
 }
 
 /// What is written of a release's answer.
-fn answered_text(alloc: Global, answer: &Answer) -> Result<String, NoMemory>
+pub(crate) fn answered_text(alloc: Global, answer: &Answer) -> Result<String, NoMemory>
     ensures { IfOk result (λ text. string_bytes text ≡ answered_text answer.now) }
 {
     let text = answer_text(alloc, answer)?;

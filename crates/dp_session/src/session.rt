@@ -91,8 +91,8 @@ impl Session {
     ///
     /// `Ended` comes exactly where an earlier call answered a fault or the last line was asked for. `DrawFault` comes
     /// exactly where the source fails in taking the draws of an accepted ask; nothing is written then. `WriteFault`
-    /// comes only where the sink's count of faults rose; a front of the line is written then. `NoMemory` writes nothing.
-    /// After any of them the session has ended.
+    /// comes only where the sink's count of faults rose; a front of the line is written then. `NoMemory` writes
+    /// nothing. After any of them the session has ended.
     pub fn answer<D: Draws, K: Sink, L: Ledger>(
         &mut self,
         alloc: Global,

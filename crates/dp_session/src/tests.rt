@@ -9,6 +9,7 @@ use std::alloc::Global;
 use std::test::Fail;
 
 mod sessions;
+mod single;
 
 /// A pipeline of two columns with the ratio 1/2, and a filter of five units at its root.
 const FILTER_OF_FIVE: &[u8] = br#"{"version":1,"columns":["sex","age"],"header":false,"ratio":[1,2],

@@ -5,6 +5,7 @@ use dp_draws::{Draws, NoDraws, Replay, Zeros};
 use dp_io::MemSink;
 use dp_num::Steps;
 use dp_pipeline::read_pipeline;
+use dp_records::records_of;
 use dp_store::store_of;
 use std::alloc::Global;
 use std::marker::Brand;
@@ -270,5 +271,107 @@ end 3 spent 2
 "
             .as_slice()
     );
+    Ok(())
+}
+
+/// The session of a pipeline's text on the value of the records of a text.
+fn session_of_value(alloc: Global, pipeline: &[u8], text: &[u8]) -> Result<Session, Fail>
+    requires { length text.now ≤ 2 ^ 30 }
+    ensures { IfOk result (λ session. session.queries.answered ≡ 0) }
+{
+    let pipeline = read_pipeline(alloc, pipeline)?;
+    let columns = pipeline.columns().len() as u32;
+    let records = records_of(alloc, text, columns, pipeline.header())?;
+    Ok(Session::new(alloc, pipeline, records)?)
+}
+
+#[test]
+fn a_session_on_a_value_answers_as_one_on_a_store(rt: HostRuntime) -> Result<(), Fail> {
+    let alloc = rt.alloc();
+    let lines = [WOMEN, AGES, DISTRICT];
+    let of_value = written_of(
+        alloc,
+        session_of_value(alloc, CENSUS, CENSUS_RECORDS)?,
+        lines,
+    )?;
+    let of_store = written_of(alloc, session_of(alloc, CENSUS, CENSUS_RECORDS)?, lines)?;
+    assert_eq!(rt; of_value.as_slice(), of_store.as_slice());
+    Ok(())
+}
+
+/// A child of the records of persons, at most two of each, and one of what filtering leaves of them.
+const OPEN_TRUNCATED: &[u8] =
+    br#"{"node":0,"open":[["truncate",2]],"distance":4,"budget":["filter",9]}"#;
+
+const OPEN_BELOW: &[u8] =
+    br#"{"node":1,"open":[["filter","item","y"]],"distance":4,"budget":["filter",1]}"#;
+
+/// The numbers of the records that are selected of a node, if any are.
+fn numbers_of(alloc: Global, session: &Session, node: u64) -> Result<Option<Vec<u32>>, Fail> {
+    let Some(selection) = session.selection(node) else {
+        return Ok(None);
+    };
+    let mut numbers = Vec::new(alloc);
+    for k in 0..selection.len() {
+        numbers.push(selection.at(k))?;
+    }
+    Ok(Some(numbers))
+}
+
+/// That these numbers are selected of a node.
+fn selects(
+    rt: &(impl Abort + AllocGlobal),
+    session: &Session,
+    node: u64,
+    wanted: &[u32],
+) -> Result<(), Fail> {
+    let Some(numbers) = numbers_of(rt.alloc(), session, node)? else {
+        panic!(rt; "a selection");
+    };
+    assert_eq!(rt; numbers.as_slice(), wanted);
+    Ok(())
+}
+
+#[test]
+fn nodes_select_what_their_lines_leave(rt: HostRuntime) -> Result<(), Fail> {
+    let alloc = rt.alloc();
+    let mut session = session_of(alloc, PERSON, ITEMS)?;
+    let mut out = output(alloc)?;
+    answer(
+        alloc,
+        &mut session,
+        OPEN_TRUNCATED,
+        &mut NoDraws::new(),
+        &mut out,
+    )?;
+    answer(
+        alloc,
+        &mut session,
+        OPEN_BELOW,
+        &mut NoDraws::new(),
+        &mut out,
+    )?;
+    selects(&rt, &session, 0, &[0, 1, 2, 3, 4])?;
+    selects(&rt, &session, 1, &[0, 1, 2, 4])?;
+    selects(&rt, &session, 2, &[1, 4])?;
+    assert!(rt; session.selection(3).is_none());
+    Ok(())
+}
+
+#[test]
+fn a_write_fault_ends_a_session(rt: HostRuntime) -> Result<(), Fail> {
+    let alloc = rt.alloc();
+    let mut session = session_of(alloc, ODOMETER, PERSONS)?;
+    let mut out = MemSink::new(alloc, 1000, vec![in alloc; 2]?, 1000)?;
+    let mut draws = Zeros::new();
+    let first = answer(alloc, &mut session, COUNT, &mut draws, &mut out);
+    assert_eq!(rt; first, Ok(()));
+    let second = answer(alloc, &mut session, COUNT, &mut draws, &mut out);
+    assert_eq!(rt; second, Err(SessionFault::WriteFault));
+    let third = answer(alloc, &mut session, COUNT, &mut draws, &mut out);
+    assert_eq!(rt; third, Err(SessionFault::Ended));
+    assert_eq!(rt; session.end(&mut out), Err(EndFault::Ended));
+    assert!(rt; session.selection(0).is_none());
+    assert_eq!(rt; out.held(), b"1 answer 3 cost 1 spent 1\n".as_slice());
     Ok(())
 }
