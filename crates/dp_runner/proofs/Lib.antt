@@ -10,7 +10,10 @@ pub mod CountSteps
 pub mod FileRuns
 pub mod FormRuns
 pub mod PipelineSteps
+pub mod PostWords
 pub mod Refusals
+pub mod ReleaseDone
+pub mod ReleaseRuns
 pub mod RunEnds
 pub mod Runs
 pub mod SamplePipeline

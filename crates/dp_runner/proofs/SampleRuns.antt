@@ -22,7 +22,9 @@ use Rattle.dp_runner.specs.Causes.{Kept, Runs}
 use Rattle.dp_runner.specs.Check.{check_form}
 use Rattle.dp_runner.specs.Count.{count_form}
 use Rattle.dp_runner.specs.Forms.{form_of, form_after, outcome}
+use Rattle.dp_runner.specs.Group.{group_form}
 use Rattle.dp_runner.specs.Laws.{IsDone, data_root}
+use Rattle.dp_runner.specs.Post.{post_form}
 use Rattle.dp_runner.specs.Outcome.{Source, Outcome, preceded_by, by_own_draws}
 use Rattle.dp_runner.specs.Sample.{record_count, sample_form, sample_text, sample_pipeline, sampled, sample_queries, records_line, zeros, sample_outcome}
 use Rattle.dp_runner.specs.SampleLaw.{zeros_transcript}
@@ -127,7 +129,9 @@ few-after command words =
     (few-either (bytes_eq command (codes "run")) _ _ (few-other form.Run (λ a. tt) (run_form words))
     (few-either (bytes_eq command (codes "replay")) _ _ (few-other form.Replay (λ a. tt) (replay_form words))
     (few-either (bytes_eq command (codes "rehearse")) _ _ (few-other form.Rehearse (λ a. tt) (rehearse_form words))
-    (few-either (bytes_eq command (codes "sample")) _ None (few-sample (sample_form words) (few-form words)) tt))))))
+    (few-either (bytes_eq command (codes "sample")) _ _ (few-sample (sample_form words) (few-form words))
+    (few-either (bytes_eq command (codes "post")) _ _ (few-other form.Post (λ a. tt) (post_form words))
+    (few-either (bytes_eq command (codes "group")) _ None (few-other form.Group (λ a. tt) (group_form words)) tt))))))))
 
 few-words : (words : List (List ℕ)) → HasFew (form_of words)
 unfolding form_of

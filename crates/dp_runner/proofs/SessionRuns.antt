@@ -12,25 +12,22 @@ use Rattle.dp_runner.specs.declared.stop.Stop.{Stop}
 use Rattle.dp_runner.specs.declared.stop.Stop.TheVariants as stop
 use Rattle.dp_runner.specs.Answering.{file_shape}
 use Rattle.dp_runner.specs.Pipelines.{pipeline_at}
-use Rattle.dp_runner.specs.Sessions.{SessionForm, Opened, stored, opened_by, file_records, opened, on_records, shape_on, form_shape}
+use Rattle.dp_runner.specs.Sessions.{SessionForm, Opened, stored, opened_by, file_records, opened_at, opened, on_records, shape_on, form_shape}
 use Rattle.dp_runner.proofs.Steps.{bind-ok, bind-err}
 
 -- the pipeline's file decides
-pub opened-no_pipeline : (form : SessionForm) (files : Files) (name : List ℕ) (reason : Stop) → name ≡ form.pipeline_name
-    → pipeline_at files name ≡ Err reason → opened form files ≡ Err reason
-unfolding opened
-opened-no_pipeline form files name reason same fails =
-    bind-err (pipeline_at files form.pipeline_name) _ reason (ap (pipeline_at files) (sym same) ∙ fails)
+pub opened-no_pipeline : (pipeline_name data_name : List ℕ) (files : Files) (reason : Stop)
+    → pipeline_at files pipeline_name ≡ Err reason → opened_at pipeline_name data_name files ≡ Err reason
+unfolding opened_at
+opened-no_pipeline pipeline_name data_name files reason fails = bind-err (pipeline_at files pipeline_name) _ reason fails
 
 -- the file of the data decides
-pub opened-data : (form : SessionForm) (files : Files) (name data_name : List ℕ) (pipeline : Content)
-    → name ≡ form.pipeline_name → data_name ≡ form.data_name → pipeline_at files name ≡ Ok pipeline
-    → opened form files ≡ file_records files data_name pipeline
-unfolding opened
-opened-data form files name data_name pipeline same same_data read =
-    bind-ok (pipeline_at files form.pipeline_name) (λ p. file_records files form.data_name p) pipeline
-    (ap (pipeline_at files) (sym same) ∙ read)
-    ∙ ap (λ (n : List ℕ). file_records files n pipeline) (sym same_data)
+pub opened-data : (pipeline_name data_name : List ℕ) (files : Files) (pipeline : Content)
+    → pipeline_at files pipeline_name ≡ Ok pipeline
+    → opened_at pipeline_name data_name files ≡ file_records files data_name pipeline
+unfolding opened_at
+opened-data pipeline_name data_name files pipeline read =
+    bind-ok (pipeline_at files pipeline_name) (λ p. file_records files data_name p) pipeline read
 
 -- the session has both
 pub opened-both : (session : SessionValue) (pipeline : Content) (store : StoreValue) (past : List (List ℕ))

@@ -23,10 +23,10 @@ use Rattle.dp_runner.specs.declared.form.Form.TheVariants as form
 use Rattle.dp_runner.specs.declared.stop.Stop.TheVariants as stop
 use Rattle.dp_runner.specs.Answering.{ends, answered, session_answering}
 use Rattle.dp_runner.specs.Forms.{form_of, outcome}
-use Rattle.dp_runner.specs.Laws.{IsDone, HasFiles, GivesAll, data_root}
+use Rattle.dp_runner.specs.Laws.{IsDone, HasData, HasFiles, GivesAll, data_root}
 use Rattle.dp_runner.specs.Outcome.{Source, Outcome, source_at, or_stop, once_read, preceded_by, by_own_draws}
 use Rattle.dp_runner.specs.SessionLaws.{session_lines}
-use Rattle.dp_runner.specs.Sessions.{SessionForm, ReplayForm, RehearseForm, Opened, opened, queried, run_outcome, replay_outcome, rehearse_outcome, seeded}
+use Rattle.dp_runner.specs.Sessions.{SessionForm, ReplayForm, RehearseForm, Opened, opened_at, opened, queried, run_outcome, replay_outcome, rehearse_outcome, seeded}
 use Rattle.dp_runner.specs.Texts.{file_text, drawn}
 use Rattle.dp_runner.proofs.CountSteps.{file-read}
 use Rattle.dp_runner.proofs.FormRuns.{form-done}
@@ -201,13 +201,19 @@ answered-all source pipeline root text draws last none e =
 
 -- ---- the three commands
 
+-- the files of a pipeline and of data are read
+pub data-complete : (pipeline_name data_name : List ℕ) (files : Files) (content : Content) (text : List ℕ)
+    → HasData pipeline_name data_name files content text
+    → opened_at pipeline_name data_name files ≡ Ok (record { pipeline = content; rows = text_records content text })
+data-complete pipeline_name data_name files content text h =
+    opened-data pipeline_name data_name files content
+    (pipeline-read files pipeline_name h.text content h.pipeline_file h.is_accepted)
+    ∙ bind-ok (file_text files data_name (2 ^ 30)) _ text (file-read files data_name text (2 ^ 30) h.data_file h.data_short)
+
 opened-complete : (form : SessionForm) (files : Files) (content : Content) (text queries : List ℕ)
     → HasFiles form files content text queries
     → opened form files ≡ Ok (record { pipeline = content; rows = text_records content text })
-opened-complete form files content text queries h =
-    opened-data form files form.pipeline_name form.data_name content refl refl
-    (pipeline-read files form.pipeline_name h.text content h.pipeline_file h.is_accepted)
-    ∙ bind-ok (file_text files form.data_name (2 ^ 30)) _ text (file-read files form.data_name text (2 ^ 30) h.data_file h.data_short)
+opened-complete form files content text queries h = data-complete form.pipeline_name form.data_name files content text h.opened
 
 queried-complete : (form : SessionForm) (files : Files) (source : Source) (content : Content) (text queries draws last : List ℕ)
     → HasFiles form files content text queries → GivesAll source content text queries draws last

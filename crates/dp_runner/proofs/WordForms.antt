@@ -1,11 +1,14 @@
 -- The form of four words after `count`, `replay` and `rehearse`, of three after `run`, of two after `account`, of one
--- after `check` and `sample`, and of any other number of words; and the form of a first word and others.
-use Rattle.std.proofs.Common.{◌≡◌, ◌≢◌, ◌≤◌, ℕ, List, [], ◌∷◌, ◌-◌, length, take, drop, map, get_or, None, refl, arith, length-drop}
+-- after `check` and `sample`, and of any other number of words; of three words and others after `post`, and of four and
+-- others after `group`; and the form of a first word and others.
+use Rattle.std.proofs.Common.{◌≡◌, ◌≢◌, ◌≤◌, ◌<◌, ℕ, List, [], ◌∷◌, ◌-◌, length, take, drop, map, get_or, None, refl, arith, length-drop}
 use Rattle.std.specs.Prelude.{option_and_then}
 use Rattle.std.proofs.lemmas.List.{take_all}
 use Rattle.dp_runner.specs.Account.{account_form, account_form_of}
 use Rattle.dp_runner.specs.Check.{check_form, check_form_of}
 use Rattle.dp_runner.specs.Count.{count_form, count_form_of}
+use Rattle.dp_runner.specs.Group.{group_form, group_form_of}
+use Rattle.dp_runner.specs.Post.{post_form, post_form_of}
 use Rattle.dp_runner.specs.Sample.{record_count_of, sample_form}
 use Rattle.dp_runner.specs.Sessions.{session_form_of, run_form, replay_form, replay_form_of, rehearse_form, rehearse_form_of}
 use Rattle.dp_runner.specs.Forms.{form_of, form_after}
@@ -124,5 +127,41 @@ unfolding form_of
 no-word bytes [] n = refl
 no-word bytes (w ∷ words) n = absurd (omega arith)
 
-pub take-rest : {W : Type 0} (words : List W) → take (length words - 1) (drop 1 words) ≡ drop 1 words
-take-rest words = take_all (length words - 1) (drop 1 words) (simp length-drop (omega arith))
+pub take-rest : {W : Type 0} (n : ℕ) (words : List W) → take (length words - n) (drop n words) ≡ drop n words
+take-rest n words = take_all (length words - n) (drop n words) (simp length-drop (omega arith))
+
+pub post-words : {W : Type 0} (bytes : W → List ℕ) (words : List W) (a b c : W) → 3 ≤ length words
+    → a ≡ get_or words 0 a → b ≡ get_or words 1 b → c ≡ get_or words 2 c
+    → post_form (map bytes words) ≡ post_form_of (bytes a) (bytes b) (bytes c) (map bytes (drop 3 words))
+unfolding post_form
+post-words bytes (v ∷ w ∷ x ∷ more) a b c n ia ib ic = rw (ia, ib, ic) refl
+post-words bytes [] a b c n ia ib ic = absurd (omega arith)
+post-words bytes (v ∷ []) a b c n ia ib ic = absurd (omega arith)
+post-words bytes (v ∷ w ∷ []) a b c n ia ib ic = absurd (omega arith)
+
+pub not_post-words : {W : Type 0} (bytes : W → List ℕ) (words : List W) → length words < 3
+    → post_form (map bytes words) ≡ None
+unfolding post_form
+not_post-words bytes [] n = refl
+not_post-words bytes (v ∷ []) n = refl
+not_post-words bytes (v ∷ w ∷ []) n = refl
+not_post-words bytes (v ∷ w ∷ x ∷ more) n = absurd (omega arith)
+
+pub group-words : {W : Type 0} (bytes : W → List ℕ) (words : List W) (a b c d : W) → 4 ≤ length words
+    → a ≡ get_or words 0 a → b ≡ get_or words 1 b → c ≡ get_or words 2 c → d ≡ get_or words 3 d
+    → group_form (map bytes words) ≡ group_form_of (bytes a) (bytes b) (bytes c) (bytes d) (map bytes (drop 4 words))
+unfolding group_form
+group-words bytes (v ∷ w ∷ x ∷ y ∷ more) a b c d n ia ib ic id = rw (ia, ib, ic, id) refl
+group-words bytes [] a b c d n ia ib ic id = absurd (omega arith)
+group-words bytes (v ∷ []) a b c d n ia ib ic id = absurd (omega arith)
+group-words bytes (v ∷ w ∷ []) a b c d n ia ib ic id = absurd (omega arith)
+group-words bytes (v ∷ w ∷ x ∷ []) a b c d n ia ib ic id = absurd (omega arith)
+
+pub not_group-words : {W : Type 0} (bytes : W → List ℕ) (words : List W) → length words < 4
+    → group_form (map bytes words) ≡ None
+unfolding group_form
+not_group-words bytes [] n = refl
+not_group-words bytes (v ∷ []) n = refl
+not_group-words bytes (v ∷ w ∷ []) n = refl
+not_group-words bytes (v ∷ w ∷ x ∷ []) n = refl
+not_group-words bytes (v ∷ w ∷ x ∷ y ∷ more) n = absurd (omega arith)

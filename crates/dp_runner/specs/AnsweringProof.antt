@@ -36,11 +36,13 @@ query-line : (answered : ℕ → Mechanism → List ℕ) (pipeline : Content) (p
 query-line answered pipeline past line =
     ended-lines (query_line answered pipeline past line) (numbered-ended _ _ (verdict-ended answered _ _))
 
+pub end-ended : (queries spent : ℕ) → IsEnded (end_line queries spent)
+end-ended queries spent =
+    ended-more (codes "end ") _ (ended-more (fmt.decimal queries) _ (ended-more (codes " spent ") _
+    (ended-more (fmt.decimal spent) (codes "\n") feed-ended)))
+
 end-line : (queries spent : ℕ) → are_lines (end_line queries spent) ≡ true
-end-line queries spent =
-    ended-lines (end_line queries spent)
-    (ended-more (codes "end ") _ (ended-more (fmt.decimal queries) _ (ended-more (codes " spent ") _
-    (ended-more (fmt.decimal spent) (codes "\n") feed-ended))))
+end-line queries spent = ended-lines (end_line queries spent) (end-ended queries spent)
 
 pub account_lines_whole : (pipeline : Content) → WritesLines (account_answering pipeline)
 account_lines_whole pipeline = record {

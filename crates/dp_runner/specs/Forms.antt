@@ -9,6 +9,8 @@ use Rattle.dp_runner.specs.Outcome.{Source, Outcome, Command, no_draws}
 use Rattle.dp_runner.specs.Account.{account_form, account_command}
 use Rattle.dp_runner.specs.Check.{check_form, check_command}
 use Rattle.dp_runner.specs.Count.{count_form, count_command}
+use Rattle.dp_runner.specs.Group.{group_form, group_command}
+use Rattle.dp_runner.specs.Post.{post_form, post_command}
 use Rattle.dp_runner.specs.Sessions.{run_form, run_command, replay_form, replay_command, rehearse_form, rehearse_command}
 use Rattle.dp_runner.specs.Sample.{sample_form, sample_command}
 
@@ -22,6 +24,8 @@ form_after command words =
     else if bytes_eq command (codes "replay") then option_map form.Replay (replay_form words)
     else if bytes_eq command (codes "rehearse") then option_map form.Rehearse (rehearse_form words)
     else if bytes_eq command (codes "sample") then option_map form.Sample (sample_form words)
+    else if bytes_eq command (codes "post") then option_map form.Post (post_form words)
+    else if bytes_eq command (codes "group") then option_map form.Group (group_form words)
     else None
 
 -- what is said of each form
@@ -33,6 +37,8 @@ command_of (form.Run words) = run_command words
 command_of (form.Replay words) = replay_command words
 command_of (form.Rehearse words) = rehearse_command words
 command_of (form.Sample records) = sample_command records
+command_of (form.Post words) = post_command words
+command_of (form.Group words) = group_command words
 
 -- the form of all words
 unfoldable pub form_of : List (List ℕ) → Option Form

@@ -62,15 +62,19 @@ AccountLaw = (words : List (List ℕ)) (files : Files) (source : Source) (accoun
     IsDone (outcome words files source)
     (account_lines content [] lines ++ end_line (length lines) (units content lines)) source.state
 
--- what the three files of a session have: an accepted pipeline, a data text of at most 2 ^ 30 bytes, and
--- queries of which no line is over
-pub record HasFiles (session : SessionForm) (files : Files) (content : Content) (data_text queries : List ℕ)
+-- what the files of a pipeline and of data have: an accepted pipeline, and a data text of at most 2 ^ 30 bytes
+pub record HasData (pipeline_name data_name : List ℕ) (files : Files) (content : Content) (data_text : List ℕ)
     : Type 0 where
   pub text : List ℕ
-  pub pipeline_file : files session.pipeline_name ≡ Some text
+  pub pipeline_file : files pipeline_name ≡ Some text
   pub is_accepted : accepted text ≡ Ok content
-  pub data_file : files session.data_name ≡ Some data_text
+  pub data_file : files data_name ≡ Some data_text
   pub data_short : length data_text ≤ 2 ^ 30
+
+-- what the three files of a session have: these, and queries of which no line is over
+pub record HasFiles (session : SessionForm) (files : Files) (content : Content) (data_text queries : List ℕ)
+    : Type 0 where
+  pub opened : HasData session.pipeline_name session.data_name files content data_text
   pub queries_file : files session.queries_name ≡ Some queries
   pub none_over : has_line_over (2 ^ 20) queries ≡ false
 

@@ -5,9 +5,14 @@ pub mod Causes
 pub mod Check
 pub mod Count
 pub mod Forms
+pub mod Group
 pub mod Laws
+pub mod OneRelease
+pub mod OneReleaseProof
 pub mod Outcome
 pub mod Pipelines
+pub mod Post
+pub mod ReleaseLaws
 pub mod RunClauses
 pub mod Sample
 pub mod SampleLaw

@@ -17,8 +17,8 @@ abbrev pub zeros_transcript : Content → Value → List (List ℕ) → List ℕ
 zeros_transcript pipeline root lines =
     transcript pipeline root lines (replicate (length (run_shape pipeline root lines)) 0)
 
--- `sample` writes the number of records and the transcript of its queries by draws of 0, ends with 0 and leaves the draw
--- source that is handed in as it was
+-- `sample` writes the number of records and the transcript of its queries by draws of 0, ends with 0 and leaves the
+-- draw source that is handed in as it was
 abbrev pub SampleLaw : Type 0
 SampleLaw = (words : List (List ℕ)) (files : Files) (source : Source) (records : ℕ)
     → form_of words ≡ Some (form.Sample records)

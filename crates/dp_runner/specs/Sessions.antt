@@ -91,11 +91,14 @@ file_records files name pipeline = do
   text ← file_text files name (2 ^ 30)
   Ok (record { pipeline = pipeline; rows = text_records pipeline text })
 
--- what the files of the pipeline and of the data have, looked at in this order
-unfoldable pub opened : SessionForm → Files → Result Opened Stop
-opened form files = do
-  pipeline ← pipeline_at files form.pipeline_name
-  file_records files form.data_name pipeline
+-- what the files of a pipeline and of data have, looked at in this order
+unfoldable pub opened_at : List ℕ → List ℕ → Files → Result Opened Stop
+opened_at pipeline_name data_name files = do
+  pipeline ← pipeline_at files pipeline_name
+  file_records files data_name pipeline
+
+abbrev pub opened : SessionForm → Files → Result Opened Stop
+opened form files = opened_at form.pipeline_name form.data_name files
 
 -- queries are answered on the records, which are the root's value
 abbrev pub on_records : Opened → Answering

@@ -4,13 +4,15 @@ ghost use Rattle.dp_runner.specs.Forms.{form_of, form_after};
 use crate::account::{AccountForm, account_form};
 use crate::check::{CheckForm, check_form};
 use crate::count::{CountForm, count_form};
+use crate::group::{GroupForm, group_form};
+use crate::post::{PostForm, post_form};
 use crate::sample::sample_form;
 use crate::sessions::{
     RehearseForm, ReplayForm, SessionForm, rehearse_form, replay_form, run_form,
 };
 
 /// The words of a command line that has a form: a variant a command.
-#[derive(Debug, Drop)]
+#[derive(Drop)]
 pub(crate) enum Form<'a> {
     /// `count DATA DRAWS LO HI`
     Count(CountForm<'a>),
@@ -26,6 +28,10 @@ pub(crate) enum Form<'a> {
     Rehearse(RehearseForm<'a>),
     /// `sample N`, by the number of records, from 1 to 1,000,000
     Sample(u32),
+    /// `post P DATA PLAN POST..`
+    Post(PostForm<'a>),
+    /// `group P DATA PLAN COLUMN TEXT..`
+    Group(GroupForm<'a>),
 }
 
 /// The form of the words, if they are of one.
@@ -50,6 +56,8 @@ fn form_after<'a>(command: &str, words: &'a [String]) -> Option<Form<'a>>
         "replay" => Some(Form::Replay(replay_form(words)?)),
         "rehearse" => Some(Form::Rehearse(rehearse_form(words)?)),
         "sample" => Some(Form::Sample(sample_form(words)?)),
+        "post" => Some(Form::Post(post_form(words)?)),
+        "group" => Some(Form::Group(group_form(words)?)),
         _ => None,
     }
 }

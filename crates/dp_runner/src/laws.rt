@@ -1,5 +1,6 @@
 //! Where a run does its work. Each law is the contract of a function that does nothing.
 ghost use Rattle.dp_runner.specs.Laws.{CountLaw, CheckLaw, AccountLaw, RunLaw, ReplayLaw, RehearseLaw, RefusalLaw, LongLaw};
+ghost use Rattle.dp_runner.specs.ReleaseLaws.{PostLaw, GroupLaw};
 ghost use Rattle.dp_runner.specs.SampleLaw.{SampleLaw};
 ghost use Rattle.dp_runner.specs.SessionLaws.{RunsOutLaw, LimitLaw, TranscriptLaw};
 
@@ -44,6 +45,18 @@ pub fn rehearse_law()
 /// by draws of 0, ends with 0 and leaves the source that is handed in as it was: zeros are draws for every query.
 pub fn sample_law()
     ensures { SampleLaw }
+{}
+
+/// Where the words are of the form of `post`, its files are there and within their limits, its pipeline is accepted,
+/// and the source that is handed in gives the draws of the release, the run writes the line of its changed answer and
+/// the end line, ends with 0 and leaves the source in the state after these draws. A refused release takes none.
+pub fn post_law()
+    ensures { PostLaw }
+{}
+
+/// The same of `group`, by the draws of the release on the group of each text.
+pub fn group_law()
+    ensures { GroupLaw }
 {}
 
 /// A text of queries on data, by the draws of all queries taken in order: up to a query whose draws the source does not

@@ -3,6 +3,7 @@ ghost use Rattle.std.specs.Option.{ForSome};
 ghost use Rattle.dp_count.specs.Faults.{Rose, Still};
 ghost use Rattle.dp_law.specs.Releasing.{TakesFront};
 ghost use Rattle.dp_session.specs.Privacy.{PrivacyLaw};
+ghost use Rattle.dp_session.specs.SinglePrivacy.{PostPrivacyLaw, GroupPrivacyLaw};
 ghost use Rattle.dp_runner.specs.Causes.{Runs, Kept, IsTold};
 ghost use Rattle.dp_runner.specs.Outcome.{source_at};
 ghost use Rattle.dp_runner.specs.Forms.{form_of, command, outcome};
@@ -13,18 +14,19 @@ use crate::account::run_account;
 use crate::check::run_check;
 use crate::count::run_count;
 use crate::form::{Form, form_of};
+use crate::release::run_release;
 use crate::sample::run_sample;
 use crate::sessions::{run_rehearse, run_replay, run_session};
 use crate::stop::Stop;
 use dp_draws::Draws;
 use dp_io::{Shelf, Sink, write_all};
-use dp_session::laws::privacy_law;
+use dp_session::laws::{privacy_law, single_law};
 use std::alloc::Global;
 
 /// Does all that the program does, and gives the status that it ends with.
 ///
-/// `words` are the words of the command line without the program's own name. They have one of seven forms, of which `run`
-/// alone uses the draw source that is handed in:
+/// `words` are the words of the command line without the program's own name. They have one of nine forms, of which
+/// `run`, `post` and `group` alone use the draw source that is handed in:
 ///
 /// - `count DATA DRAWS LO HI` counts the CSV records of the file DATA and writes `answer A`, A being the geometric
 ///   release of that number with the ratio 1/2 and the range LO..HI, from the draws in the file DRAWS;
@@ -37,19 +39,24 @@ use std::alloc::Global;
 /// - `rehearse P DATA QUERIES SEED` writes the line `rehearsal`, just before it opens QUERIES, and does so by the draws
 ///   of ChaCha20 whose key is SEED, 1 to 19 digits, as eight bytes, the lowest first, and 24 zeros;
 /// - `sample N` opens no file: it makes a data text of N records, N being 1 to 7 digits that spell a number from 1 to
-///   1,000,000, writes `records N`, and answers three fixed queries on a fixed pipeline by draws of 0.
+///   1,000,000, writes `records N`, and answers three fixed queries on a fixed pipeline by draws of 0;
+/// - `post P DATA PLAN POST..` makes the release of a plan on the records of the file DATA, by the draws that are
+///   handed in, changes its answer by 1 to 16 changes, `cumulate`, `floor` or `largest`, and writes its line and a last
+///   line;
+/// - `group P DATA PLAN COLUMN TEXT..` makes it on the records of each of 1 to 1,023 texts in a column, and writes the
+///   line of all its answers and a last line.
 ///
 /// Answers of `replay`, `rehearse` and `sample` come from known draws and protect nobody. Of the definitions that they
-/// and `run` follow, every accepted pipeline is private.
+/// and `run` follow, every accepted pipeline is private, and so is each accepted release of `post` and `group`.
 ///
 /// | status | line on `err` | comes |
 /// |---|---|---|
 /// | 0 | none | all lines of the command were written |
 /// | 2 | `dp: usage` | exactly where the words are of no form |
-/// | 3 | `dp: pipeline refused c` | exactly where the text of P is refused with the number c, and no earlier fault came |
+/// | 3 | `dp: pipeline refused c` | exactly where P's text is refused with the number c, and no earlier fault came |
 /// | 4 | `dp: read fault` | only where the shelf's count of faults rose, or where it tells its files and lacks one |
 /// | 5 | `dp: write fault` | only where the count of faults of `out` rose |
-/// | 6 | `dp: draw fault` | exactly where the command's draw source fails in taking the draws, and no other fault came |
+/// | 6 | `dp: draw fault` | exactly where the draw source fails in taking the draws, and no other fault came |
 /// | 7 | `dp: too long` | exactly where DATA passes 2^30 bytes or DRAWS 2^26, and no earlier fault came |
 /// | 8 | `dp: query limit` | exactly where a line of QUERIES passes 65,536 bytes or they pass 2^20, and no fault came |
 /// | 9 | `dp: no memory` | memory ran out |
@@ -129,10 +136,16 @@ pub fn run_words<S: Shelf, D: Draws, K: Sink, E: Sink>(
 
     // Every accepted pipeline is private, on all data texts within its distance, for all lists of queries and replies.
     ensures private { PrivacyLaw }
+
+    // So is each accepted release of `post` and of `group`, for all answers, at the cost that is written.
+    ensures post_private { PostPrivacyLaw }
+    ensures group_private { GroupPrivacyLaw }
+
     ensures later { (S.faults shelf.old ≤ S.faults shelf.new) × (K.faults out.old ≤ K.faults out.new)
         × (E.faults err.old ≤ E.faults err.new) }
 {
     privacy_law();
+    single_law();
     match run(alloc, words, shelf, draws, out) {
         Ok(()) => 0,
         Err(stop) => report(stop, err),
@@ -201,5 +214,7 @@ fn run<S: Shelf, D: Draws, K: Sink>(
         Some(Form::Replay(form)) => run_replay(alloc, &form, shelf, out),
         Some(Form::Rehearse(form)) => run_rehearse(alloc, &form, shelf, out),
         Some(Form::Sample(records)) => run_sample(alloc, records, out),
+        Some(Form::Post(form)) => run_release(alloc, &form, shelf, draws, out),
+        Some(Form::Group(form)) => run_release(alloc, &form, shelf, draws, out),
     }
 }

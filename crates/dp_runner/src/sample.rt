@@ -11,7 +11,7 @@ ghost use Rattle.dp_runner.specs.Stops.{row_of, is_silent};
 ghost use Rattle.dp_runner.specs.Turns.{RunsTo};
 
 use crate::answerer::Answerer;
-use crate::sessions::write_line;
+use crate::sessions::write_lines;
 use crate::stop::Stop;
 use dp_count::{NoMemory, short_decimal};
 use dp_draws::{Draws, Zeros};
@@ -86,7 +86,7 @@ pub(crate) fn run_sample<K: Sink>(alloc: Global, records: u32, out: &mut K) -> R
 {
     let mut session = sample_session(alloc, records)?;
     let line = records_line(alloc, records)?;
-    write_line(out, line.as_bytes())?;
+    write_lines(out, line.as_bytes())?;
     answer_queries(alloc, &mut session, &mut Zeros::new(), out)
 }
 

@@ -7,7 +7,7 @@ ghost use Rattle.dp_law.specs.Releasing.{TakesFront};
 ghost use Rattle.dp_session.specs.Sessions.{IsSessionAt};
 ghost use Rattle.dp_runner.specs.Causes.{Answers, Kept, Runs};
 ghost use Rattle.dp_runner.specs.Outcome.{Source, source_at};
-ghost use Rattle.dp_runner.specs.Sessions.{run_form, replay_form, rehearse_form, session_form_of, replay_form_of, rehearse_form_of, opened, opened_by, stored, file_records, run_outcome, form_shape, replay_outcome, rehearse_outcome, seed_bytes};
+ghost use Rattle.dp_runner.specs.Sessions.{run_form, replay_form, rehearse_form, session_form_of, replay_form_of, rehearse_form_of, opened_at, opened, opened_by, stored, file_records, run_outcome, form_shape, replay_outcome, rehearse_outcome, seed_bytes};
 ghost use Rattle.dp_runner.specs.Stops.{row_of, is_silent};
 
 use crate::answering::answer_file;
@@ -304,7 +304,7 @@ pub(crate) fn run_rehearse<S: Shelf, K: Sink>(
     let mut session = session_of(alloc, words, shelf)?;
     let mut draws = ChaChaDraws::new(seed_bytes(form.seed()));
     // The line stands before the answers, so that no reader takes them for released ones.
-    write_line(out, b"rehearsal\n")?;
+    write_lines(out, b"rehearsal\n")?;
     answer_file(
         alloc,
         &mut session,
@@ -315,16 +315,16 @@ pub(crate) fn run_rehearse<S: Shelf, K: Sink>(
     )
 }
 
-/// Writes a line, which is given with its line feed.
-pub(crate) fn write_line<K: Sink>(out: &mut K, line: &[u8]) -> Result<(), Stop>
-    ensures written { OnOk result (K.held out.new ≡ appended (K.held out.old) line.now) }
-    ensures front { OnErr result (AddsFront (K.held out.old) (K.held out.new) line.now) }
+/// Writes lines, which are given with their line feeds.
+pub(crate) fn write_lines<K: Sink>(out: &mut K, lines: &[u8]) -> Result<(), Stop>
+    ensures written { OnOk result (K.held out.new ≡ appended (K.held out.old) lines.now) }
+    ensures front { OnErr result (AddsFront (K.held out.old) (K.held out.new) lines.now) }
     ensures only { IfErr result (λ reason. reason ≡ Stop.WriteFault) }
     ensures write_fault { OnErr result (Rose (K.faults out.old) (K.faults out.new)) }
     ensures out_later { K.faults out.old ≤ K.faults out.new }
     ensures out_kept { OnOk result (K.faults out.new ≡ K.faults out.old) }
 {
-    match write_all(out, line) {
+    match write_all(out, lines) {
         Ok(()) => Ok(()),
         Err(_) => Err(Stop::WriteFault),
     }
@@ -358,9 +358,31 @@ fn session_of<S: Shelf>(
     ensures opened { OnOk result (S.slots shelf.new ≡ S.slots shelf.old + 2) }
     ensures same_files { S.files shelf.new ≡ S.files shelf.old }
 {
-    let pipeline = pipeline_of(alloc, shelf, form.pipeline_name())?;
-    let store = records_of(alloc, shelf, form.data_name(), &pipeline)?;
+    let (pipeline, store) = open_data(alloc, shelf, form.pipeline_name(), form.data_name())?;
     Ok(Session::over(alloc, pipeline, store)?)
+}
+
+/// The pipeline of a file, and the records of a data file under it.
+pub(crate) fn open_data<S: Shelf>(
+    alloc: Global,
+    shelf: &mut S,
+    pipeline_name: &str,
+    data_name: &str,
+) -> Result<(Pipeline, Store), Stop>
+    ensures answers { Answers result (λ found. stored found.0 found.1) (S.files shelf.old)
+        (opened_at pipeline_name.now data_name.now) (S.faults shelf.old) (S.faults shelf.new) }
+    ensures columns { IfOk result (λ found. let store = found.1 in let pipeline = found.0 in
+        store.columns ≡ length pipeline.columns) }
+    ensures no_draw_fault { result ≢ Err Stop.DrawFault }
+    ensures later { S.faults shelf.old ≤ S.faults shelf.new }
+    ensures kept { Kept result (S.faults shelf.old) (S.faults shelf.new) }
+    ensures opens { S.slots shelf.new ≤ S.slots shelf.old + 2 }
+    ensures opened { OnOk result (S.slots shelf.new ≡ S.slots shelf.old + 2) }
+    ensures same_files { S.files shelf.new ≡ S.files shelf.old }
+{
+    let pipeline = pipeline_of(alloc, shelf, pipeline_name)?;
+    let store = records_of(alloc, shelf, data_name, &pipeline)?;
+    Ok((pipeline, store))
 }
 
 /// The records of a data file under a pipeline. Its text is dropped.

@@ -18,19 +18,19 @@ const REPLAY: [&str; 5] = ["replay", "pipeline", "data", "queries", "draws"];
 const REHEARSE: [&str; 5] = ["rehearse", "pipeline", "data", "queries", "0"];
 
 /// Two records of two columns.
-const TWO_RECORDS: &[u8] = b"F,3\nM,4\n";
+pub(super) const TWO_RECORDS: &[u8] = b"F,3\nM,4\n";
 
 /// The texts of the four files.
 #[derive(Clone, Copy, Drop)]
-struct Texts<'a> {
-    pipeline: &'a [u8],
-    data: &'a [u8],
-    queries: &'a [u8],
-    draws: &'a [u8],
+pub(super) struct Texts<'a> {
+    pub(super) pipeline: &'a [u8],
+    pub(super) data: &'a [u8],
+    pub(super) queries: &'a [u8],
+    pub(super) draws: &'a [u8],
 }
 
 /// What a run shows over these files, by a source of draws, where such calls fail.
-fn run_with<D: Draws>(
+pub(super) fn run_with<D: Draws>(
     rt: &impl AllocGlobal,
     words: &[&str],
     texts: Texts<'_>,
@@ -260,13 +260,13 @@ fn draws_run_out(rt: HostRuntime) -> Result<(), Fail> {
 }
 
 /// A pipeline of three columns with a filter of 20 and a plan.
-const CENSUS: &[u8] =
+pub(super) const CENSUS: &[u8] =
     br#"{"version":1,"columns":["sex","age","district"],"header":true,"ratio":[9,10],
 "distance":1,"root":["filter",20],
 "plans":{"women":[["filter","sex","F"],["count"],["geometric",1,0,12]]}}"#;
 
 /// Twelve records below a header.
-const PERSONS: &[u8] = b"sex,age,district
+pub(super) const PERSONS: &[u8] = b"sex,age,district
 F,34,North
 M,51,South
 F,7,North

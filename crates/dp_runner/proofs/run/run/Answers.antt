@@ -103,3 +103,37 @@ pub returns-in-Some-Run-clause-source_later : goal.returns-in-Some-Run-clause-so
 returns-in-Some-Run-clause-source_later g c =
     never-falls c.run_session.result _ _ c.run_session.ensures.draw_fault c.run_session.ensures.draws_kept
     (g.met.D.Draws.few_faults c.args.draws.now)
+
+pub returns-in-Some-Post-clause-runs : goal.returns-in-Some-Post-clause-runs
+returns-in-Some-Post-clause-runs g c =
+    let source : Source = record { step = g.D.Draws.step; state = g.D.Draws.state c.args.draws.now } in
+    of-form (map string_bytes c.args.words.now) (form.Post c.in-Some-Post.form) source c.run_release.result _ _ _ _ _ _
+    (sym c.form_of.ensures ∙ c.in-Some-Post.is ∙ ap Some c.in-Some-Post.field-0-is) c.run_release.ensures.runs
+
+pub returns-in-Some-Post-clause-taken : goal.returns-in-Some-Post-clause-taken
+returns-in-Some-Post-clause-taken g c = λ other.
+    form-taken (map string_bytes c.args.words.now) (form.Post c.in-Some-Post.form) g.D.Draws.step (g.D.Draws.state c.args.draws.now) _
+    (g.S.Shelf.files c.args.shelf.now) (sym c.form_of.ensures ∙ c.in-Some-Post.is ∙ ap Some c.in-Some-Post.field-0-is)
+    (c.run_release.ensures.taken other)
+
+pub returns-in-Some-Post-clause-source_later : goal.returns-in-Some-Post-clause-source_later
+returns-in-Some-Post-clause-source_later g c =
+    never-falls c.run_release.result _ _ c.run_release.ensures.draw_fault c.run_release.ensures.draws_kept
+    (g.met.D.Draws.few_faults c.args.draws.now)
+
+pub returns-in-Some-Group-clause-runs : goal.returns-in-Some-Group-clause-runs
+returns-in-Some-Group-clause-runs g c =
+    let source : Source = record { step = g.D.Draws.step; state = g.D.Draws.state c.args.draws.now } in
+    of-form (map string_bytes c.args.words.now) (form.Group c.in-Some-Group.form) source c.run_release.result _ _ _ _ _ _
+    (sym c.form_of.ensures ∙ c.in-Some-Group.is ∙ ap Some c.in-Some-Group.field-0-is) c.run_release.ensures.runs
+
+pub returns-in-Some-Group-clause-taken : goal.returns-in-Some-Group-clause-taken
+returns-in-Some-Group-clause-taken g c = λ other.
+    form-taken (map string_bytes c.args.words.now) (form.Group c.in-Some-Group.form) g.D.Draws.step (g.D.Draws.state c.args.draws.now) _
+    (g.S.Shelf.files c.args.shelf.now) (sym c.form_of.ensures ∙ c.in-Some-Group.is ∙ ap Some c.in-Some-Group.field-0-is)
+    (c.run_release.ensures.taken other)
+
+pub returns-in-Some-Group-clause-source_later : goal.returns-in-Some-Group-clause-source_later
+returns-in-Some-Group-clause-source_later g c =
+    never-falls c.run_release.result _ _ c.run_release.ensures.draw_fault c.run_release.ensures.draws_kept
+    (g.met.D.Draws.few_faults c.args.draws.now)

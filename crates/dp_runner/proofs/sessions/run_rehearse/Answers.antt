@@ -18,21 +18,21 @@ returns-in_err-session-clause-runs g c = λ source.
     (preceded_by (codes "rehearsal\n") (queried form.session files (seeded form.seed) found)))
     (g.S.Shelf.files c.args.shelf.now) (opened form.session) _ _ _ (rw c.session-words.ensures at c.in_err-session.ensures.answers))
 
-pub returns-in_err-write_line-clause-runs : goal.returns-in_err-write_line-clause-runs
+pub returns-in_err-write_lines-clause-runs : goal.returns-in_err-write_lines-clause-runs
 unfolding rehearse_outcome
-returns-in_err-write_line-clause-runs g c = λ source.
-    let p = err_from_is_err_and c.from_residual-in_err-write_line.result c.from_residual-in_err-write_line.ensures.1 in
+returns-in_err-write_lines-clause-runs g c = λ source.
+    let p = err_from_is_err_and c.from_residual-in_err-write_lines.result c.from_residual-in_err-write_lines.ensures.1 in
     let form = c.args.form.now in
-    rw (p.1, p.2, c.in_err-write_line.ensures.only) (runs-after (Err stop.WriteFault) source
+    rw (p.1, p.2, c.in_err-write_lines.ensures.only) (runs-after (Err stop.WriteFault) source
     (λ (files : Files) (found : Opened). by_own_draws source
     (preceded_by (codes "rehearsal\n") (queried form.session files (seeded form.seed) found)))
     (g.S.Shelf.files c.args.shelf.now) (opened form.session) (opened_by c.in_ok-session.session)
     (g.S.Shelf.faults c.args.shelf.now) (g.S.Shelf.faults c.session_of.new.shelf) (g.S.Shelf.faults c.session_of.new.shelf)
-    (g.K.Sink.held c.args.out.now) (g.K.Sink.held c.write_line.new.out) source.state
+    (g.K.Sink.held c.args.out.now) (g.K.Sink.held c.write_lines.new.out) source.state
     (omega arith) (rw c.session-words.ensures at c.in_ok-session.ensures.answers)
     (λ files is. front-before (codes "rehearsal\n")
     (queried form.session files (seeded form.seed) (opened_by c.in_ok-session.session)).bytes _ _
-    c.in_err-write_line.ensures.front))
+    c.in_err-write_lines.ensures.front))
 
 pub returns-clause-runs : goal.returns-clause-runs
 unfolding rehearse_outcome
@@ -49,7 +49,7 @@ returns-clause-runs g c = λ source.
     _ _ _ _
     (runs-preceded c.answer_file.result (codes "rehearsal\n") (g.S.Shelf.files c.args.shelf.now)
     (λ files. queried form.session files (seeded form.seed) (opened_by c.in_ok-session.session)) _ _ _ _ _ _
-    c.in_ok-write_line.ensures.written refl
+    c.in_ok-write_lines.ensures.written refl
     (rw (
       c.in_ok-session.ensures.same_files,
       c.queries_name.ensures,
