@@ -93,6 +93,10 @@ transcript='1 answer 104 cost 5 spent 5
 7 answer 37 cost 5 spent 30
 end 7 spent 30'
 printf '{"node":0,"ask":[["count"],["geometric",1,0,0]]}\n' >always_zero
+# Plans of the one answer 0, of more draws for 17 groups than a release may take, and of more units than the root has.
+printf '%s' '{"version":1,"columns":["sex","age","district"],"header":true,"ratio":[1,2],"distance":1,"root":["filter",5],' \
+    '"plans":{"none":[["count"],["geometric",1,0,0]],"wide":[["count"],["geometric",1,0,65535]],' \
+    '"dear":[["count"],["geometric",6,0,0]]}}' >zero
 # The draws of one query, and all but the last of the next.
 head -n 2 drawn | head -c -2 >too_few
 { head -n 1 asked; head -c 65537 /dev/zero | tr '\0' ' '; } >wide_asked
@@ -165,6 +169,36 @@ case_of 'runs whose draws differ' 1 '' '' '"$dp" run town people asked >one && "
 case_of 'a run of two files' 2 '' 'dp: usage' '"$dp" run town people'
 case_of 'a run of missing queries' 4 '' 'dp: read fault' '"$dp" run town people missing'
 case_of 'a run for an output that is full' 5 '' 'dp: write fault' '"$dp" run town people asked >/dev/full'
+
+# One release of a plan. Of an answer of several numbers the form is compared, since the draws are the system's.
+numbers_as_n() { sed 's/-*[0-9][0-9]*\([],;)]\)/N\1/g' "$1"; }
+case_of 'a release on the records of each text' 0 $'1 answer (N;N;N) cost 5 spent 5\nend 1 spent 5' '' '"$dp" group town people women district North South East >all; status=$?; numbers_as_n all; exit $status'
+case_of 'vectors on the records of each text' 0 $'1 answer ([N,N,N,N];[N,N,N,N]) cost 5 spent 5\nend 1 spent 5' '' '"$dp" group town people ages sex F M >all; status=$?; numbers_as_n all; exit $status'
+case_of 'a release on the records of one text' 0 $'1 answer 0 cost 1 spent 1\nend 1 spent 1' '' '"$dp" group zero people none district ""'
+case_of 'a release of data on the standard input' 0 $'1 answer (0;0) cost 1 spent 1\nend 1 spent 1' '' '"$dp" group zero - none district North South <people'
+case_of 'as many texts as there may be' 0 'end 1 spent 5' '' '"$dp" group town people women district $(seq 1023) >all; status=$?; tail -n 1 all; exit $status'
+case_of 'one text too many' 2 '' 'dp: usage' '"$dp" group town people women district $(seq 1024)'
+case_of 'no text' 2 '' 'dp: usage' '"$dp" group town people women district'
+case_of 'a text that is given twice' 0 $'1 refused 4 construction 3\nend 1 spent 0' '' '"$dp" group town people women district North South North'
+case_of 'groups where a person is the unit' 0 $'1 refused 4 construction 2\nend 1 spent 0' '' '"$dp" group persons people p item x y'
+case_of 'groups by a column that is not there' 0 $'1 refused 1 malformed\nend 1 spent 0' '' '"$dp" group town people women county North'
+case_of 'groups of a plan that is not there' 0 $'1 refused 1 malformed\nend 1 spent 0' '' '"$dp" group town people men district North'
+case_of 'more draws than a release may take' 0 $'1 refused 4 construction 5\nend 1 spent 0' '' '"$dp" group zero people wide district $(seq 17)'
+case_of 'a release over the budget' 0 $'1 refused 7 budget 6 5\nend 1 spent 0' '' '"$dp" group zero people dear district North'
+case_of 'groups under a pipeline that is refused' 3 '' 'dp: pipeline refused 6' '"$dp" group cut missing women district North'
+case_of 'groups of missing data' 4 '' 'dp: read fault' '"$dp" group town missing women district North'
+case_of 'groups for an output that is full' 5 '' 'dp: write fault' '"$dp" group town people women district North >/dev/full'
+case_of 'a release that is changed' 0 $'1 answer [N,N,N,N] cost 5 spent 5\nend 1 spent 5' '' '"$dp" post town people ages cumulate floor >all; status=$?; numbers_as_n all; exit $status'
+case_of 'as many changes as there may be' 0 $'1 answer 0 cost 1 spent 1\nend 1 spent 1' '' '"$dp" post zero people none $(yes floor | head -n 16)'
+case_of 'one change too many' 2 '' 'dp: usage' '"$dp" post zero people none $(yes floor | head -n 17)'
+case_of 'no change' 2 '' 'dp: usage' '"$dp" post town people ages'
+case_of 'a word that is no change' 2 '' 'dp: usage' '"$dp" post town people ages floor ceiling'
+case_of 'a change of a plan that is not there' 0 $'1 refused 1 malformed\nend 1 spent 0' '' '"$dp" post town people "" floor'
+case_of 'a change over the budget' 0 $'1 refused 7 budget 6 5\nend 1 spent 0' '' '"$dp" post zero people dear floor'
+case_of 'a change under a pipeline that is refused' 3 '' 'dp: pipeline refused 6' '"$dp" post cut missing ages floor'
+case_of 'a change of missing data' 4 '' 'dp: read fault' '"$dp" post town missing ages floor'
+case_of 'a change for an output that is full' 5 '' 'dp: write fault' '"$dp" post town people ages floor >/dev/full'
+case_of 'releases whose draws differ' 1 '' '' '"$dp" post town people ages floor >one && "$dp" post town people ages floor >other && cmp -s one other'
 
 # Records that are made.
 sampled='records 1000
