@@ -1,8 +1,9 @@
 #!/usr/bin/env bash
 # Runs the commands of every console block of README.md and docs/GUIDE.md on the built program, in a copy of examples/,
 # and compares all that each writes. In a block that begins with ```console varies the draws are the system's, and of an
-# answer's numbers only the places are compared. A word names a program to be run in place of the built one. The last
-# line is `N passed, M failed`.
+# answer's numbers only the places are compared. Looks whether each rust block of docs/LIBRARY.md stands, line by line,
+# in the file of its functions. A word names a program to be run in place of the built one. The last line is
+# `N passed, M failed`.
 cd "$(dirname "$0")/.." || exit 1
 here=$(pwd)
 work=$(mktemp -d) || exit 1
@@ -78,9 +79,40 @@ read_page() {
     done <"$page"
 }
 
+# Looks whether the lines of the block that was read stand in the source, one after another.
+try_block() {
+    if [ -n "$block" ] && [[ $source == *$'\n'"$block"* ]]; then
+        passed=$((passed + 1))
+    else
+        failed=$((failed + 1))
+        echo "guide: $page: FAILED, not in $functions: ${block%%$'\n'*}"
+    fi
+}
+
+# Goes through the rust blocks of a page.
+read_blocks() {
+    local inside= line
+    source=$'\n'$(cat "$functions")$'\n'
+    while IFS= read -r line; do
+        if [ -n "$inside" ] && [ "$line" = '```' ]; then
+            try_block
+            inside=
+        elif [ -n "$inside" ]; then
+            block+=$line$'\n'
+        elif [ "$line" = '```rust' ]; then
+            block=
+            inside=yes
+        fi
+    done <"$page"
+}
+
 for page in README.md docs/GUIDE.md; do
     read_page
 done
+
+page=docs/LIBRARY.md
+functions=crates/dp_session/src/tests/library.rt
+read_blocks
 
 echo "$passed passed, $failed failed"
 [ "$failed" -eq 0 ] && [ "$passed" -gt 0 ]

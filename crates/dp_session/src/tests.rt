@@ -8,6 +8,7 @@ use dp_tree::{FindFault, SeatFault};
 use std::alloc::Global;
 use std::test::Fail;
 
+mod library;
 mod sessions;
 mod single;
 
