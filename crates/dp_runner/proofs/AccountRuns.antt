@@ -1,6 +1,6 @@
 -- What a run of `account` does, from what it reads and what it answers.
-use Rattle.std.proofs.Common.{◌≡◌, ◌∙◌, ◌^◌, ℕ, false, List, [], ◌++◌, length, Option, Some, Result, Ok, refl, ap, arith}
-use Rattle.dp_io.specs.Lines.{lines_of, has_line_over}
+use Rattle.std.proofs.Common.{◌≡◌, ◌∙◌, ◌^◌, ℕ, false, List, [], ◌++◌, length, Option, Some, Result, Ok, refl, ap, arith, subst}
+use Rattle.dp_io.specs.Lines.{lines_of, has_line_over, ended_lines}
 use Rattle.dp_io.specs.Shelf.{Files}
 use Rattle.dp_io.proofs.TextLines.{within-all}
 use Rattle.dp_pipeline.specs.declared.content.Content.{Content}
@@ -10,16 +10,17 @@ use Rattle.dp_session.specs.Verdicts.{units}
 use Rattle.dp_runner.specs.declared.form.Form.TheVariants as form
 use Rattle.dp_runner.specs.declared.stop.Stop.{Stop}
 use Rattle.dp_runner.specs.declared.stop.Stop.TheVariants as stop
-use Rattle.dp_runner.specs.Account.{AccountForm, accounted, account_outcome}
-use Rattle.dp_runner.specs.Answering.{account_answering, file_answered}
-use Rattle.dp_runner.specs.Causes.{Runs}
+use Rattle.dp_runner.specs.Account.{AccountForm, accounted, account_outcome, account_interrupted}
+use Rattle.dp_runner.specs.Answering.{account_answering, file_answered, interrupted}
+use Rattle.dp_runner.specs.Causes.{HasDone, Runs}
 use Rattle.dp_runner.specs.Forms.{form_of, outcome}
 use Rattle.dp_runner.specs.Laws.{IsDone}
-use Rattle.dp_runner.specs.Outcome.{Source, or_stop, once_read, by_own_draws}
-use Rattle.dp_runner.proofs.AccountTexts.{no_source, file-accounted}
+use Rattle.dp_runner.specs.Outcome.{Source, Outcome, or_stop, once_read, by_own_draws}
+use Rattle.dp_runner.specs.Pipelines.{pipeline_at}
+use Rattle.dp_runner.proofs.AccountTexts.{no_source, file-accounted, account-cut}
 use Rattle.dp_runner.proofs.FormRuns.{form-done}
 use Rattle.dp_runner.proofs.PipelineSteps.{pipeline-read}
-use Rattle.dp_runner.proofs.Runs.{runs-same, runs-own}
+use Rattle.dp_runner.proofs.Runs.{runs-same, runs-own, own-done, done-after}
 
 -- the queries of a file, where the account has this pipeline and the file this name
 pub runs-accounted : (result : Result (Unit {0}) Stop) (source : Source) (told : Option Files) (kept pipeline : Content)
@@ -36,6 +37,22 @@ runs-accounted result source told kept pipeline name queries before now old new 
     ∙ ap (λ (p : Content). once_read source (accounted source p) (or_stop stop.ReadFault (files name))) same
     ∙ ap (λ (n : List ℕ). once_read source (accounted source pipeline) (or_stop stop.ReadFault (files n))) same_name)
     (runs-own result source told (λ files. file_answered no_source (account_answering kept) files name) before now old new last h)
+
+-- the queries of which this much was given, where the account has the pipeline of the file
+pub account-interrupted : (form : AccountForm) (files : Files) (source : Source) (kept pipeline : Content) (given : List ℕ)
+    (old new : Option (List ℕ)) (last : List ℕ) → kept ≡ pipeline → pipeline_at files form.pipeline_name ≡ Ok pipeline
+    → HasDone (interrupted no_source (account_answering kept) given) (Some stop.ReadFault) old new last
+    → HasDone (account_interrupted form files source given) (Some stop.ReadFault) old new source.state
+account-interrupted form files source kept pipeline given old new last same read h =
+    let lines : Content → Outcome = λ p. record {
+      bytes = account_lines p [] (ended_lines given);
+      stop = Some stop.ReadFault;
+      last = source.state;
+    } in
+    done-after source lines (pipeline_at files form.pipeline_name) pipeline (Some stop.ReadFault) old new source.state read
+    (subst (λ (p : Content). HasDone (lines p) (Some stop.ReadFault) old new source.state) same
+    (subst (λ (o : Outcome). HasDone o (Some stop.ReadFault) old new source.state) (account-cut source kept given)
+    (own-done source (interrupted no_source (account_answering kept) given) (Some stop.ReadFault) old new last h)))
 
 -- ---- the law
 

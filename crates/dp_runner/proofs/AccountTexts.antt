@@ -4,14 +4,14 @@ use Rattle.std.specs.Prelude.{reverse, if◌then◌else◌}
 use Rattle.std.proofs.lemmas.List.{length-reverse}
 use Rattle.dp_draws.specs.Taking.{Turn, take_draws}
 use Rattle.dp_draws.specs.Sources.{no_step}
-use Rattle.dp_io.specs.Lines.{lines_within, has_line_over}
+use Rattle.dp_io.specs.Lines.{lines_within, has_line_over, ended_lines}
 use Rattle.dp_pipeline.specs.declared.content.Content.{Content}
 use Rattle.dp_session.specs.QueryLines.{account_line, account_lines, end_line}
 use Rattle.dp_session.specs.SessionLines.{preceded, account_slot, line_slots, run_slots}
 use Rattle.dp_session.specs.Verdicts.{root_spent}
 use Rattle.dp_runner.specs.declared.stop.Stop.TheVariants as stop
 use Rattle.dp_runner.specs.Account.{accounted}
-use Rattle.dp_runner.specs.Answering.{ends, answered, account_answering}
+use Rattle.dp_runner.specs.Answering.{ends, answered, interrupted, account_answering}
 use Rattle.dp_runner.specs.Outcome.{Source, source_at, or_stop, once_read, by_own_draws}
 
 -- the source of an account, from which no draw is taken
@@ -26,6 +26,13 @@ unfolding run_slots line_slots account_lines take_draws
 ran-account step pipeline past [] state = refl
 ran-account step pipeline past (line ∷ lines) state =
     ap (preceded (account_line pipeline past line)) (ran-account step pipeline (line ∷ past) lines state)
+
+-- the lines of which this much was given
+pub account-cut : (source : Source) (pipeline : Content) (given : List ℕ)
+    → by_own_draws source (interrupted no_source (account_answering pipeline) given)
+    ≡ record { bytes = account_lines pipeline [] (ended_lines given); stop = Some stop.ReadFault; last = source.state }
+unfolding interrupted
+account-cut source pipeline given = rw (ran-account no_step pipeline [] (ended_lines given) []) refl
 
 own-ends : (source : Source) (over : Bool) (lines end last : List ℕ)
     → by_own_draws source (ends (record { bytes = lines; enough = true; last = last }) over end)

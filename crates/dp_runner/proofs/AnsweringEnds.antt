@@ -34,6 +34,20 @@ pub turn-some : (more : Bool) (stands : List (List ℕ) → Type 0) (answering :
 turn-some true stands answering past source left rest old new is h = h
 turn-some false stands answering past source left rest old new is h = absurd (cc)
 
+-- a turn whose read fails
+pub turn-read : (reason : Stop) (stands : List (List ℕ) → Type 0) (answering : Answering) (past : List (List ℕ)) (source : Drawing)
+    (left rest old new : Option (List ℕ)) → reason ≡ stop.ReadFault → Turns (Err reason) stands answering past source left rest old new
+    → Nothing source old new
+turn-read stop.ReadFault stands answering past source left rest old new is h = h
+turn-read reason stands answering past source left rest old new is h = absurd (cc)
+
+pub err-same : (result : Result (Unit {0}) Stop) (one other : Stop) → result ≡ Err one → result ≡ Err other → one ≡ other
+err-same result one other is also = cc
+
+pub read-failed : (fault : LineFault) → stop_of_line fault ≡ stop.ReadFault → fault ≡ line_fault.Failed
+read-failed line_fault.Failed is = refl
+read-failed line_fault.TooLong is = absurd (cc)
+
 pub turn-ends : (reason : Stop) (stands next : List (List ℕ) → Type 0) (answering : Answering) (source : Drawing) (last : List ℕ)
     (start left rest old held new : Option (List ℕ)) (turn before after faults_before faults_now : ℕ)
     → before ≡ suc after → (s : Standing stands answering source start left old held turn before)

@@ -47,15 +47,15 @@ through source last = record { step = source.step; before = source.before; after
 abbrev pub from : Drawing → List ℕ → Drawing
 from source last = record { step = source.step; before = source.after; after = last }
 
-same-coming : (f : List ℕ → Outcome) (start : Option (List ℕ)) → option_map f start ≡ option_map (λ text. preceded_by [] (f text)) start
+pub same-coming : (f : List ℕ → Outcome) (start : Option (List ℕ)) → option_map f start ≡ option_map (λ text. preceded_by [] (f text)) start
 same-coming f None = refl
 same-coming f (Some text) = refl
 
-same-shapes : (f : List ℕ → List ℕ) (start : Option (List ℕ)) → option_map f start ≡ option_map (λ text. [] ++ f text) start
+pub same-shapes : (f : List ℕ → List ℕ) (start : Option (List ℕ)) → option_map f start ≡ option_map (λ text. [] ++ f text) start
 same-shapes f None = refl
 same-shapes f (Some text) = refl
 
-pub standing-none : (stands : List (List ℕ) → Type 0) (answering : Answering) (step : List ℕ → ℕ → Turn) (state : List ℕ)
+unfoldable pub standing-none : (stands : List (List ℕ) → Type 0) (answering : Answering) (step : List ℕ → ℕ → Turn) (state : List ℕ)
     (start held : Option (List ℕ)) → stands [] → Standing stands answering (unused step state) start start held held 0 (2 ^ 20)
 standing-none stands answering step state start held none = record {
   past = [];
@@ -101,7 +101,7 @@ line-comes answering source most past bytes line text draws first taken =
     ∙ ap (λ l. preceded_by (bytes ++ (answering.slot past l).out draws)
     (to_come source.step answering most (l ∷ past) (after_first_line text) source.after)) (sym first.line_is)
 
-lines-come : (answering : Answering) (source : Drawing) (most : ℕ) (past : List (List ℕ)) (bytes line draws : List ℕ)
+pub lines-come : (answering : Answering) (source : Drawing) (most : ℕ) (past : List (List ℕ)) (bytes line draws : List ℕ)
     (left rest : Option (List ℕ))
     → ForSome left (λ text. IsFirst line text) → rest ≡ option_map after_first_line left
     → Gives source (answering.slot past line).shape (Some draws)
@@ -122,7 +122,7 @@ line-shapes answering most past shape line text first =
     (sym first.line_is)
     ∙ sym (append_assoc shape (answering.slot past line).shape (shape_to_come answering most (line ∷ past) (after_first_line text)))
 
-shapes-come : (answering : Answering) (most : ℕ) (past : List (List ℕ)) (shape line : List ℕ) (left rest : Option (List ℕ))
+pub shapes-come : (answering : Answering) (most : ℕ) (past : List (List ℕ)) (shape line : List ℕ) (left rest : Option (List ℕ))
     → ForSome left (λ text. IsFirst line text) → rest ≡ option_map after_first_line left
     → option_map (λ text. shape ++ shape_to_come answering (suc most) past text) left
     ≡ option_map (λ text. (shape ++ (answering.slot past line).shape) ++ shape_to_come answering most (line ∷ past) text) rest
@@ -130,7 +130,7 @@ shapes-come answering most past shape line None rest first is = rw is refl
 shapes-come answering most past shape line (Some text) rest first is =
     rw is (ap Some (line-shapes answering most past shape line text (first text refl)))
 
-pub standing-more : (stands next : List (List ℕ) → Type 0) (answering : Answering) (source : Drawing) (last : List ℕ)
+unfoldable pub standing-more : (stands next : List (List ℕ) → Type 0) (answering : Answering) (source : Drawing) (last : List ℕ)
     (start left rest old held new : Option (List ℕ)) (turn before after : ℕ)
     → WritesLines answering → before ≡ suc after → (s : Standing stands answering source start left old held turn before)
     → Answered next answering s.past (from source last) left rest held new

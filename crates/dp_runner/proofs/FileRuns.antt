@@ -12,7 +12,7 @@ use Rattle.dp_law.specs.Releasing.{TakesFront}
 use Rattle.dp_runner.specs.declared.stop.Stop.{Stop}
 use Rattle.dp_runner.specs.declared.stop.Stop.TheVariants as stop
 use Rattle.dp_runner.specs.Answering.{Answering, answered, answered_shape, file_answered, file_shape}
-use Rattle.dp_runner.specs.Causes.{HasReason, Runs}
+use Rattle.dp_runner.specs.Causes.{HasReason, IsInterrupted, Runs}
 use Rattle.dp_runner.specs.Outcome.{Source, Outcome, or_stop, once_read}
 use Rattle.dp_runner.specs.Stops.{stop_of_open}
 use Rattle.dp_runner.specs.Turns.{RunsTo}
@@ -86,6 +86,17 @@ file-taken step before after answering told name lines slot left fresh starts h 
     let shape : Option (List ℕ) → List ℕ = λ text. unwrap_or (option_map (answered_shape answering) text) [] in
     subst (λ (text : Option (List ℕ)). TakesFront step (shape text) before after) (sym found.1)
     (h found.0 (remaining-fresh lines slot left found.0 fresh found.2))
+
+-- a read of what is left of the file failed
+pub file-interrupted : (told : Option Files) (files : Files) (name : List ℕ) (lines : LinesValue) (slot opened : ℕ) (left : Option (List ℕ))
+    (now : ℕ → Option (List ℕ)) (part : List ℕ → Outcome) (old new : Option (List ℕ)) (last : List ℕ)
+    → lines ≡ record { slot = slot; line = []; read_ahead = []; at_end = false } → told ≡ Some files → StartsFile told name left
+    → opened ≡ lines.slot
+    → ForSome (remaining lines left) (λ text. IsInterrupted (Some text) (now lines.slot) part old new last)
+    → IsInterrupted (files name) (now opened) part old new last
+file-interrupted told files name lines slot opened left now part old new last fresh is starts same h =
+    let found = file-told told files name left is starts in
+    rw (found.1, same) (h found.0 (remaining-fresh lines slot left found.0 fresh found.2))
 
 -- no draw was taken
 pub none-taken : (step : List ℕ → ℕ → Turn) (shape state : List ℕ) → TakesFront step shape state state

@@ -1,5 +1,5 @@
 -- A run of words of a form is a run of that form's command.
-use Rattle.std.proofs.Common.{◌≡◌, ℕ, true, false, IsTrue, List, Option, Some, Result, sym, subst}
+use Rattle.std.proofs.Common.{◌≡◌, ◌+◌, ℕ, true, false, IsTrue, List, Option, Some, None, Result, sym, subst}
 use Rattle.std.specs.Option.{ForSome}
 use Rattle.dp_draws.specs.Taking.{Turn}
 use Rattle.dp_io.specs.Shelf.{Files}
@@ -10,7 +10,7 @@ use Rattle.dp_runner.specs.declared.stop.Stop.{Stop}
 use Rattle.dp_runner.specs.Account.{AccountForm}
 use Rattle.dp_runner.specs.Outcome.{Source}
 use Rattle.dp_runner.specs.Forms.{form_of, command_of, command_if, outcome}
-use Rattle.dp_runner.specs.Causes.{Runs}
+use Rattle.dp_runner.specs.Causes.{Interrupts, Runs}
 use Rattle.dp_runner.specs.Laws.{IsDone}
 
 pub of-form : (words : List (List ℕ)) (f : Form) (source : Source) (result : Result (Unit {0}) Stop) (told : Option Files)
@@ -20,6 +20,26 @@ pub of-form : (words : List (List ℕ)) (f : Form) (source : Source) (result : R
 of-form words f source result told before now old new last is h =
     subst (λ (o : Option Form). Runs result told (λ files. (command_if o).outcome files source) before now old new last)
     (sym is) h
+
+-- what is said of a form's queries is said of the run's
+pub form-interrupts : (words : List (List ℕ)) (f : Form) (told : Option Files) (source : Source) (left old new : Option (List ℕ))
+    (last : List ℕ) (before now : ℕ)
+    → form_of words ≡ Some f
+    → (now ≡ before + (command_of f).files → Interrupts (command_of f).queries told source left old new last)
+    → now ≡ before + (command_if (form_of words)).files
+    → Interrupts (command_if (form_of words)).queries told source left old new last
+form-interrupts words f told source left old new last before now is h =
+    subst (λ (o : Option Form). now ≡ before + (command_if o).files → Interrupts (command_if o).queries told source left old new last)
+    (sym is) h
+
+-- a form without queries
+pub none-interrupts : (words : List (List ℕ)) (f : Form) (told : Option Files) (source : Source) (left old new : Option (List ℕ))
+    (last : List ℕ)
+    → form_of words ≡ Some f → (command_of f).queries ≡ None
+    → Interrupts (command_if (form_of words)).queries told source left old new last
+none-interrupts words f told source left old new last is none =
+    subst (λ (o : Option Form). Interrupts (command_if o).queries told source left old new last) (sym is)
+    (λ asked some. absurd (cc))
 
 -- `account` writes before its end
 pub account-early : (words : List (List ℕ)) (account : AccountForm) → form_of words ≡ Some (form.Account account)

@@ -9,6 +9,7 @@ pub mod CountRuns
 pub mod CountSteps
 pub mod FileRuns
 pub mod FormRuns
+pub mod Interruptions
 pub mod PipelineSteps
 pub mod PostWords
 pub mod Refusals

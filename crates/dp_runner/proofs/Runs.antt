@@ -6,8 +6,8 @@ use Rattle.dp_io.specs.Sink.{appended, AddsFront}
 use Rattle.dp_io.proofs.Pieces.{appended-append}
 use Rattle.dp_runner.specs.declared.stop.Stop.{Stop}
 use Rattle.dp_runner.specs.declared.stop.Stop.TheVariants as stop
-use Rattle.dp_runner.specs.Causes.{HasReason, HasDone, Runs}
-use Rattle.dp_runner.specs.Outcome.{Source, Outcome, once_read, preceded_by, by_own_draws}
+use Rattle.dp_runner.specs.Causes.{HasReason, HasDone, IsInterrupted, Interrupts, Runs}
+use Rattle.dp_runner.specs.Outcome.{Source, Outcome, Queries, once_read, preceded_by, by_own_draws}
 use Rattle.dp_runner.specs.WrittenLines.{are_lines, AddsLines}
 use Rattle.dp_runner.specs.WrittenLinesProof.{lines-append}
 use Rattle.dp_runner.proofs.Steps.{rose-late}
@@ -72,7 +72,7 @@ runs-after result source next told right x before mid now old new last early rea
 
 -- ---- a draw source of its own
 
-own-done : (source : Source) (outcome : Outcome) (ending : Option Stop) (old new : Option (List ℕ)) (last : List ℕ)
+pub own-done : (source : Source) (outcome : Outcome) (ending : Option Stop) (old new : Option (List ℕ)) (last : List ℕ)
     → HasDone outcome ending old new last → HasDone (by_own_draws source outcome) ending old new source.state
 own-done source outcome ending old new last h = record { gained = h.gained; whole = h.whole; stop_is = h.stop_is; last_is = refl }
 
@@ -90,7 +90,7 @@ runs-own (Err reason) source told right before now old new last h = λ files e. 
 
 -- ---- bytes that were written before
 
-preceded-done : (bytes : List ℕ) (outcome : Outcome) (ending : Option Stop) (old held new : Option (List ℕ)) (last : List ℕ)
+pub preceded-done : (bytes : List ℕ) (outcome : Outcome) (ending : Option Stop) (old held new : Option (List ℕ)) (last : List ℕ)
     → held ≡ appended old bytes → are_lines bytes ≡ true → HasDone outcome ending held new last
     → HasDone (preceded_by bytes outcome) ending old new last
 preceded-done bytes outcome ending old held new last written whole h = record {
@@ -142,3 +142,37 @@ front-before bytes more old new h = record {
   split = ap (λ b. b ++ more) h.split ∙ append_assoc h.front h.rest more;
   gained = h.gained;
 }
+
+-- ---- a read of the queries that fails
+
+-- what was read before
+pub done-after : {A : Type 0} (source : Source) (next : A → Outcome) (right : Result A Stop) (x : A) (ending : Option Stop)
+    (old new : Option (List ℕ)) (last : List ℕ) → right ≡ Ok x
+    → HasDone (next x) ending old new last → HasDone (once_read source next right) ending old new last
+done-after source next right x ending old new last e h =
+    subst (λ (o : Outcome). HasDone o ending old new last) (read-same source next right x e) h
+
+interrupted-by : (text left : Option (List ℕ)) (part whole : List ℕ → Outcome) (old held new : Option (List ℕ)) (last state : List ℕ)
+    → ((given : List ℕ) → HasDone (part given) (Some stop.ReadFault) held new last
+    → HasDone (whole given) (Some stop.ReadFault) old new state)
+    → IsInterrupted text left part held new last → IsInterrupted text left whole old new state
+interrupted-by text left part whole old held new last state step h = record {
+  given = h.given;
+  rest = h.rest;
+  text_is = h.text_is;
+  left_is = h.left_is;
+  has_done = step h.given h.has_done;
+}
+
+-- where the part that answers the queries was interrupted, the command was
+pub interrupts-by : (asked : Queries) (told : Option Files) (source : Source) (left old held new : Option (List ℕ)) (last state : List ℕ)
+    (part : List ℕ → Outcome)
+    → ((files : Files) (given : List ℕ) → told ≡ Some files → HasDone (part given) (Some stop.ReadFault) held new last
+    → HasDone (asked.interrupted files source given) (Some stop.ReadFault) old new state)
+    → ForSome told (λ files. IsInterrupted (files asked.name) left part held new last)
+    → Interrupts (Some asked) told source left old new state
+interrupts-by asked told source left old held new last state part step h = λ other is files told_is.
+    let same : asked ≡ other = cc in
+    subst (λ (q : Queries). IsInterrupted (files q.name) left (q.interrupted files source) old new state) same
+    (interrupted-by (files asked.name) left part (asked.interrupted files source) old held new last state
+    (λ given. step files given told_is) (h files told_is))

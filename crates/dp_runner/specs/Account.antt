@@ -1,6 +1,6 @@
 -- The command `account P QUERIES`.
 use Rattle.std.specs.Prelude.{ℕ, ◌&&◌, ◌^◌, ◌++◌, true, false, List, [], ◌∷◌, length, Option, Some, None, if◌then◌else◌}
-use Rattle.dp_io.specs.Lines.{lines_within, has_line_over}
+use Rattle.dp_io.specs.Lines.{lines_within, has_line_over, ended_lines}
 use Rattle.dp_io.specs.Shelf.{Files}
 use Rattle.dp_pipeline.specs.declared.content.Content.{Content}
 use Rattle.dp_session.specs.QueryLines.{account_lines, end_line}
@@ -46,6 +46,17 @@ account_outcome form files source =
     (λ pipeline. once_read source (accounted source pipeline) (or_stop stop.ReadFault (files form.queries_name)))
     (pipeline_at files form.pipeline_name)
 
+-- where a read of the queries fails: the line of each query whose line feed was given before
+abbrev pub account_interrupted : AccountForm → Files → Source → List ℕ → Outcome
+account_interrupted form files source given =
+    once_read source
+    (λ pipeline. record {
+      bytes = account_lines pipeline [] (ended_lines given);
+      stop = Some stop.ReadFault;
+      last = source.state;
+    })
+    (pipeline_at files form.pipeline_name)
+
 -- what is said of the command: it leaves the draw source that is handed in as it was
 abbrev pub account_command : AccountForm → Command
 account_command form = record {
@@ -54,4 +65,5 @@ account_command form = record {
   writes_last = false;
   keeps_source = true;
   shape = no_draws;
+  queries = Some (record { name = form.queries_name; interrupted = account_interrupted form });
 }

@@ -3,7 +3,7 @@ use Rattle.std.specs.Prelude.{ℕ, ◌^◌, ◌++◌, Bool, not, List, [], lengt
 use Rattle.std.specs.Option.{unwrap_or}
 use Rattle.dp_count.specs.Slots.{Slot, joined_shape}
 use Rattle.dp_domain.specs.declared.values.Value.{Value}
-use Rattle.dp_io.specs.Lines.{lines_within, has_line_over}
+use Rattle.dp_io.specs.Lines.{lines_within, has_line_over, ended_lines}
 use Rattle.dp_io.specs.Shelf.{Files}
 use Rattle.dp_pipeline.specs.declared.content.Content.{Content}
 use Rattle.dp_session.specs.QueryLines.{end_line}
@@ -49,6 +49,17 @@ answered source answering text =
 -- the bounds of its draws, in order
 unfoldable pub answered_shape : Answering → List ℕ → List ℕ
 answered_shape answering text = joined_shape (line_slots answering.slot [] (lines_within (2 ^ 20) text))
+
+-- the queries of which this much was given, and then a read failed: each line whose line feed was given is written
+-- by the draws that the source gives for it, and nothing of what comes after the last line feed
+unfoldable pub interrupted : Source → Answering → List ℕ → Outcome
+interrupted source answering given =
+    let ran = run_slots source.step (line_slots answering.slot [] (ended_lines given)) source.state in
+    record {
+      bytes = ran.bytes;
+      stop = Some (if ran.enough then stop.ReadFault else stop.DrawFault);
+      last = ran.last;
+    }
 
 -- the queries of a file; a run ends before it writes where the file is not there
 abbrev pub file_answered : Source → Answering → Files → List ℕ → Outcome

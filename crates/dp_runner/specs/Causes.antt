@@ -1,12 +1,12 @@
 -- What the steps of a run may answer, for each way in which a run may end.
-use Rattle.std.specs.Prelude.{◌≡◌, ◌⊎◌, ℕ, List, Option, Some, None, Result, Ok, Err, IsTrue}
+use Rattle.std.specs.Prelude.{◌≡◌, ◌⊎◌, ◌++◌, ℕ, List, Option, Some, None, Result, Ok, Err, IsTrue}
 use Rattle.std.specs.Option.{ForSome}
 use Rattle.dp_count.specs.Faults.{Rose}
 use Rattle.dp_io.specs.Shelf.{Files}
 use Rattle.dp_io.specs.Sink.{appended, AddsFront}
 use Rattle.dp_runner.specs.declared.stop.Stop.{Stop}
 use Rattle.dp_runner.specs.declared.stop.Stop.TheVariants as stop
-use Rattle.dp_runner.specs.Outcome.{Outcome}
+use Rattle.dp_runner.specs.Outcome.{Source, Outcome, Queries}
 use Rattle.dp_runner.specs.WrittenLines.{are_lines, AddsLines}
 
 -- the shelf tells its files, and this holds of them
@@ -41,6 +41,21 @@ pub record HasDone (outcome : Outcome) (ending : Option Stop) (old new : Option 
   pub whole : IsTrue (are_lines outcome.bytes)
   pub stop_is : ending ≡ outcome.stop
   pub last_is : last ≡ outcome.last
+
+-- a read of a text failed: a front of it was given, the rest is left, and the run did what is said of that front
+pub record IsInterrupted (text left : Option (List ℕ)) (done : List ℕ → Outcome) (old new : Option (List ℕ))
+    (last : List ℕ) : Type 0 where
+  pub given : List ℕ
+  pub rest : List ℕ
+  pub text_is : text ≡ Some (given ++ rest)
+  pub left_is : left ≡ Some rest
+  pub has_done : HasDone (done given) (Some stop.ReadFault) old new last
+
+-- the same of a command's queries, where it has any and where the files are told
+abbrev pub Interrupts : Option Queries → Option Files → Source → Option (List ℕ) → Option (List ℕ) → Option (List ℕ)
+    → List ℕ → Type 0
+Interrupts queries told source left old new last = ForSome queries (λ asked. ForSome told (λ files.
+    IsInterrupted (files asked.name) left (asked.interrupted files source) old new last))
 
 -- a run does what its outcome says; or it ends with a read fault where the shelf's count of faults rose, or with want
 -- of memory, both after some of the lines, or with a write fault after a front of the bytes

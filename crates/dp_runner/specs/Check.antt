@@ -33,4 +33,5 @@ check_command form = record {
   writes_last = true;
   keeps_source = true;
   shape = no_draws;
+  queries = None;
 }

@@ -91,4 +91,5 @@ count_command form = record {
   writes_last = true;
   keeps_source = true;
   shape = no_draws;
+  queries = None;
 }

@@ -53,6 +53,7 @@ no_command = record {
   writes_last = true;
   keeps_source = true;
   shape = no_draws;
+  queries = None;
 }
 
 -- what is said of words of that form, if they are of one

@@ -55,4 +55,5 @@ release_command names slot = record {
   writes_last = true;
   keeps_source = false;
   shape = release_shape names slot;
+  queries = None;
 }

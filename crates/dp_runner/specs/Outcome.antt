@@ -19,6 +19,13 @@ pub record Outcome : Type 0 where
   pub stop : Option Stop
   pub last : List ℕ
 
+-- the queries that a command answers one line after another
+pub record Queries : Type 0 where
+  -- the name of their file, which is opened last
+  pub name : List ℕ
+  -- what its run does where a read of that file fails, by what was given of its text before
+  pub interrupted : Files → Source → List ℕ → Outcome
+
 -- what is said of a command's words of one form
 pub record Command : Type 0 where
   -- what its run does
@@ -31,6 +38,8 @@ pub record Command : Type 0 where
   pub keeps_source : Bool
   -- the bounds of the draws that it takes from that source, in order
   pub shape : Files → List ℕ
+  -- the queries that it answers, if it answers any
+  pub queries : Option Queries
 
 -- a value, or else the end of the run
 abbrev pub or_stop : {A : Type 0} → Stop → Option A → Result A Stop

@@ -128,4 +128,5 @@ sample_command records = record {
   writes_last = false;
   keeps_source = true;
   shape = no_draws;
+  queries = None;
 }

@@ -13,7 +13,7 @@ use Rattle.dp_session.specs.Privacy.{text_records}
 use Rattle.dp_session.specs.Sessions.{SessionValue}
 use Rattle.dp_store.specs.Stores.{StoreValue}
 use Rattle.dp_runner.specs.declared.stop.Stop.{Stop}
-use Rattle.dp_runner.specs.Answering.{Answering, session_answering, file_answered, file_shape}
+use Rattle.dp_runner.specs.Answering.{Answering, session_answering, interrupted, file_answered, file_shape}
 use Rattle.dp_runner.specs.Outcome.{Source, Outcome, Command, source_at, once_read, by_own_draws, preceded_by, no_draws}
 use Rattle.dp_runner.specs.Pipelines.{pipeline_at}
 use Rattle.dp_runner.specs.Texts.{file_text, drawn}
@@ -110,9 +110,16 @@ on_records found = session_answering found.pipeline (value.Rows found.rows)
 abbrev pub queried : SessionForm → Files → Source → Opened → Outcome
 queried form files source found = file_answered source (on_records found) files form.queries_name
 
--- `run`: by the source that is handed in
+-- the queries of which this much was given before a read failed
+abbrev pub interrupted_on : List ℕ → Source → Opened → Outcome
+interrupted_on given source found = interrupted source (on_records found) given
+
+-- `run`: by the source that is handed in, where the queries are answered so
+abbrev pub run_by : (Source → Opened → Outcome) → SessionForm → Files → Source → Outcome
+run_by answer form files source = once_read source (answer source) (opened form files)
+
 unfoldable pub run_outcome : SessionForm → Files → Source → Outcome
-run_outcome form files source = once_read source (queried form files source) (opened form files)
+run_outcome form files = run_by (queried form files) form files
 
 -- the bounds of its draws, in order: none where the run ends before it comes to the queries
 abbrev pub shape_on : SessionForm → Files → Result Opened Stop → List ℕ
@@ -123,13 +130,16 @@ unfoldable pub form_shape : SessionForm → Files → List ℕ
 form_shape form files = shape_on form files (opened form files)
 
 -- `replay`: by the numbers that the file of draws spells, which is read after the data
-unfoldable pub replay_outcome : ReplayForm → Files → Source → Outcome
-replay_outcome form files source =
+abbrev pub replay_by : (Source → Opened → Outcome) → ReplayForm → Files → Source → Outcome
+replay_by answer form files source =
     once_read source
     (λ found. once_read source
-    (λ numbers. by_own_draws source (queried form.session files (source_at replay_step numbers) found))
+    (λ numbers. by_own_draws source (answer (source_at replay_step numbers) found))
     (drawn files form.draws_name))
     (opened form.session files)
+
+unfoldable pub replay_outcome : ReplayForm → Files → Source → Outcome
+replay_outcome form files = replay_by (queried form.session files) form files
 
 -- the 32 bytes of a seed: its number in eight bytes, the lowest first, and then zeros
 abbrev pub seed_bytes : ℕ → List ℕ
@@ -140,12 +150,14 @@ abbrev pub seeded : ℕ → Source
 seeded seed = source_at chacha_step (seed_state (seed_bytes seed))
 
 -- `rehearse`: by the draws of its seed; it writes a first line before the file of the queries is opened
-unfoldable pub rehearse_outcome : RehearseForm → Files → Source → Outcome
-rehearse_outcome form files source =
+abbrev pub rehearse_by : (Source → Opened → Outcome) → RehearseForm → Files → Source → Outcome
+rehearse_by answer form files source =
     once_read source
-    (λ found. by_own_draws source
-    (preceded_by (codes "rehearsal\n") (queried form.session files (seeded form.seed) found)))
+    (λ found. by_own_draws source (preceded_by (codes "rehearsal\n") (answer (seeded form.seed) found)))
     (opened form.session files)
+
+unfoldable pub rehearse_outcome : RehearseForm → Files → Source → Outcome
+rehearse_outcome form files = rehearse_by (queried form.session files) form files
 
 -- ---- what is said of the commands
 
@@ -156,6 +168,10 @@ run_command form = record {
   writes_last = false;
   keeps_source = false;
   shape = form_shape form;
+  queries = Some (record {
+    name = form.queries_name;
+    interrupted = λ files source given. run_by (interrupted_on given) form files source;
+  });
 }
 
 abbrev pub replay_command : ReplayForm → Command
@@ -165,6 +181,10 @@ replay_command form = record {
   writes_last = false;
   keeps_source = true;
   shape = no_draws;
+  queries = Some (record {
+    name = form.session.queries_name;
+    interrupted = λ files source given. replay_by (interrupted_on given) form files source;
+  });
 }
 
 abbrev pub rehearse_command : RehearseForm → Command
@@ -174,4 +194,8 @@ rehearse_command form = record {
   writes_last = false;
   keeps_source = true;
   shape = no_draws;
+  queries = Some (record {
+    name = form.session.queries_name;
+    interrupted = λ files source given. rehearse_by (interrupted_on given) form files source;
+  });
 }

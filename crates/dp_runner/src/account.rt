@@ -1,7 +1,7 @@
-ghost use Rattle.std.specs.Prelude.{◌≡◌, ◌≢◌, ◌+◌, ◌≤◌, map, string_bytes, OnOk, IfErr, IsTrue, Err};
+ghost use Rattle.std.specs.Prelude.{◌≡◌, ◌≢◌, ◌+◌, ◌-◌, ◌≤◌, map, string_bytes, OnOk, IfErr, IsTrue, Err};
 ghost use Rattle.dp_count.specs.Faults.{Rose};
-ghost use Rattle.dp_runner.specs.Account.{account_form, account_form_of, account_outcome};
-ghost use Rattle.dp_runner.specs.Causes.{Kept, Runs};
+ghost use Rattle.dp_runner.specs.Account.{account_form, account_form_of, account_outcome, account_command};
+ghost use Rattle.dp_runner.specs.Causes.{Interrupts, Kept, Runs};
 ghost use Rattle.dp_runner.specs.Outcome.{Source};
 ghost use Rattle.dp_runner.specs.Stops.{row_of, is_silent};
 
@@ -82,6 +82,10 @@ pub(crate) fn run_account<S: Shelf, K: Sink>(
     ensures runs { (source : Source) → Runs result (S.files shelf.old)
         (λ files. account_outcome form.now files source) (S.faults shelf.old) (S.faults shelf.new)
         (K.held out.old) (K.held out.new) source.state }
+    ensures interrupted { (source : Source) → result ≡ Err Stop.ReadFault
+        → S.slots shelf.new ≡ S.slots shelf.old + 2
+        → Interrupts (account_command form.now).queries (S.files shelf.old) source
+        (S.left shelf.new (S.slots shelf.new - 1)) (K.held out.old) (K.held out.new) source.state }
     ensures no_usage { result ≢ Err Stop.Usage }
     ensures silent { IfErr result (λ reason.
         IsTrue (is_silent (row_of reason).status) → K.held out.new ≡ K.held out.old) }

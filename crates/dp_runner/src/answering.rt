@@ -1,10 +1,11 @@
-ghost use Rattle.std.specs.Prelude.{◌≡◌, ◌≢◌, ◌+◌, ◌≤◌, ◌<◌, ◌^◌, List, ℕ, [], false, length, OnOk, IfErr, Err, option_map};
+ghost use Rattle.std.specs.Prelude.{◌≡◌, ◌≢◌, ◌+◌, ◌-◌, ◌≤◌, ◌<◌, ◌^◌, List, ℕ, [], true, false, length, OnOk, IfErr, Some, Ok, Err, option_map};
+ghost use Rattle.std.specs.List.{list_any};
 ghost use Rattle.std.specs.Option.{ForSome};
 ghost use Rattle.dp_count.specs.Faults.{Rose};
-ghost use Rattle.dp_io.specs.Lines.{remaining};
+ghost use Rattle.dp_io.specs.Lines.{is_line_feed, remaining, needs_read};
 ghost use Rattle.dp_law.specs.Releasing.{TakesFront};
-ghost use Rattle.dp_runner.specs.Answering.{answered, answered_shape, file_answered, file_shape};
-ghost use Rattle.dp_runner.specs.Causes.{Kept, Runs};
+ghost use Rattle.dp_runner.specs.Answering.{answered, answered_shape, interrupted, file_answered, file_shape};
+ghost use Rattle.dp_runner.specs.Causes.{IsInterrupted, Kept, Runs};
 ghost use Rattle.dp_runner.specs.Outcome.{source_at};
 ghost use Rattle.dp_runner.specs.Stops.{row_of, is_silent};
 ghost use Rattle.dp_runner.specs.Turns.{RunsTo, Turns};
@@ -19,7 +20,8 @@ use std::alloc::Global;
 const MOST_LINES: u32 = 1 << 20;
 
 /// Answers all query lines of a file by a draw source, from what has answered none, and writes the last line. It reads
-/// one line at a time, and writes what it answers before it reads the next.
+/// one line at a time, and writes what it answers before it reads the next. Where a read of the file fails, the line of
+/// each query whose line feed was read is written, and no other.
 pub(crate) fn answer_file<A: Answerer, S: Shelf, D: Draws, K: Sink>(
     alloc: Global,
     answerer: &mut A,
@@ -34,6 +36,11 @@ pub(crate) fn answer_file<A: Answerer, S: Shelf, D: Draws, K: Sink>(
         (S.faults shelf.old) (S.faults shelf.new) (K.held out.old) (K.held out.new) (D.state draws.new) }
     ensures taken { result ≢ Err Stop.DrawFault → ForSome (S.files shelf.old) (λ files. TakesFront D.step
         (file_shape (A.answering answerer.old) files name.now) (D.state draws.old) (D.state draws.new)) }
+    ensures interrupted { result ≡ Err Stop.ReadFault → S.slots shelf.new ≡ S.slots shelf.old + 1
+        → ForSome (S.files shelf.old) (λ files. IsInterrupted (files name.now)
+        (S.left shelf.new (S.slots shelf.new - 1))
+        (interrupted (source_at D.step (D.state draws.old)) (A.answering answerer.old))
+        (K.held out.old) (K.held out.new) (D.state draws.new)) }
     ensures speaks { IfErr result (λ reason. is_silent (row_of reason).status ≡ false) }
     ensures later { S.faults shelf.old ≤ S.faults shelf.new }
     ensures kept { Kept result (S.faults shelf.old) (S.faults shelf.new) }
@@ -68,6 +75,11 @@ fn answer_lines<A: Answerer, S: Shelf, D: Draws, K: Sink>(
     ensures taken { result ≢ Err Stop.DrawFault → ForSome (remaining lines.old (S.left shelf.old lines.old.slot))
         (λ text. TakesFront D.step (answered_shape (A.answering answerer.old) text)
         (D.state draws.old) (D.state draws.new)) }
+    ensures interrupted { result ≡ Err Stop.ReadFault
+        → ForSome (remaining lines.old (S.left shelf.old lines.old.slot)) (λ text. IsInterrupted (Some text)
+        (S.left shelf.new lines.old.slot)
+        (interrupted (source_at D.step (D.state draws.old)) (A.answering answerer.old))
+        (K.held out.old) (K.held out.new) (D.state draws.new)) }
     ensures speaks { IfErr result (λ reason. is_silent (row_of reason).status ≡ false) }
     ensures later { S.faults shelf.old ≤ S.faults shelf.new }
     ensures kept { Kept result (S.faults shelf.old) (S.faults shelf.new) }
@@ -106,6 +118,12 @@ fn answer_next<A: Answerer, S: Shelf, D: Draws, K: Sink>(
         (remaining lines.old (S.left shelf.old lines.old.slot)) (remaining lines.new (S.left shelf.new lines.old.slot))
         (K.held out.old) (K.held out.new) }
     ensures same { OnOk result (A.answering answerer.new ≡ A.answering answerer.old) }
+    ensures unended { result ≡ Ok true → ForSome (remaining lines.old (S.left shelf.old lines.old.slot))
+        (λ text. list_any is_line_feed text ≡ false → lines.new.at_end ≡ true) }
+    ensures end_stays { lines.old.at_end ≡ true → lines.new.at_end ≡ true }
+    ensures failed { result ≡ Err Stop.ReadFault → needs_read lines.new ≡ true }
+    ensures same_text { result ≡ Err Stop.ReadFault → remaining lines.new (S.left shelf.new lines.old.slot)
+        ≡ remaining lines.old (S.left shelf.old lines.old.slot) }
     ensures speaks { IfErr result (λ reason. is_silent (row_of reason).status ≡ false) }
     ensures rose { result ≡ Err Stop.ReadFault → Rose (S.faults shelf.old) (S.faults shelf.new) }
     ensures later { S.faults shelf.old ≤ S.faults shelf.new }

@@ -1,10 +1,10 @@
-ghost use Rattle.std.specs.Prelude.{◌≡◌, ◌≢◌, ◌+◌, ◌≤◌, ◌⊎◌, ◌↔◌, map, string_bytes, Some, None, Ok, Err, OnOk, IfErr, IsTrue, false};
+ghost use Rattle.std.specs.Prelude.{◌≡◌, ◌≢◌, ◌+◌, ◌-◌, ◌≤◌, ◌⊎◌, ◌↔◌, map, string_bytes, Some, None, Ok, Err, OnOk, IfErr, IsTrue, false};
 ghost use Rattle.std.specs.Option.{ForSome};
 ghost use Rattle.dp_count.specs.Faults.{Rose, Still};
 ghost use Rattle.dp_law.specs.Releasing.{TakesFront};
 ghost use Rattle.dp_session.specs.Privacy.{PrivacyLaw};
 ghost use Rattle.dp_session.specs.SinglePrivacy.{PostPrivacyLaw, GroupPrivacyLaw};
-ghost use Rattle.dp_runner.specs.Causes.{Runs, Kept, IsTold};
+ghost use Rattle.dp_runner.specs.Causes.{Interrupts, Runs, Kept, IsTold};
 ghost use Rattle.dp_runner.specs.Outcome.{source_at};
 ghost use Rattle.dp_runner.specs.Forms.{form_of, command, outcome};
 ghost use Rattle.dp_runner.specs.RunClauses.{IsOutcome, IsRefused, Ending, GainsLines, GainsMessage};
@@ -96,6 +96,14 @@ pub fn run_words<S: Shelf, D: Draws, K: Sink, E: Sink>(
     ensures silent { IsTrue (is_silent result) → K.held out.new ≡ K.held out.old }
     ensures nothing { IsTrue (command (map string_bytes words.now)).writes_last → result ≢ 0 → result ≢ 5
         → K.held out.new ≡ K.held out.old }
+
+    // Where a read of the queries failed, what was left of the file tells what was given of its text, and the output
+    // gained the line of each query whose line feed was given, and of no other.
+    ensures interrupted { result ≡ 4
+        → S.slots shelf.new ≡ S.slots shelf.old + (command (map string_bytes words.now)).files
+        → Interrupts (command (map string_bytes words.now)).queries (S.files shelf.old)
+        (source_at D.step (D.state draws.old)) (S.left shelf.new (S.slots shelf.new - 1))
+        (K.held out.old) (K.held out.new) (D.state draws.new) }
 
     ensures usage { (result ≡ 2) ↔ (form_of (map string_bytes words.now) ≡ None) }
     ensures refused { result ≡ 3 → ForSome (S.files shelf.old)
@@ -189,6 +197,11 @@ fn run<S: Shelf, D: Draws, K: Sink>(
         IsTrue (is_silent (row_of reason).status) → K.held out.new ≡ K.held out.old) }
     ensures nothing { IsTrue (command (map string_bytes words.now)).writes_last → result ≢ Ok tt
         → result ≢ Err Stop.WriteFault → K.held out.new ≡ K.held out.old }
+    ensures interrupted { result ≡ Err Stop.ReadFault
+        → S.slots shelf.new ≡ S.slots shelf.old + (command (map string_bytes words.now)).files
+        → Interrupts (command (map string_bytes words.now)).queries (S.files shelf.old)
+        (source_at D.step (D.state draws.old)) (S.left shelf.new (S.slots shelf.new - 1))
+        (K.held out.old) (K.held out.new) (D.state draws.new) }
     ensures opens { S.slots shelf.new ≤ S.slots shelf.old + (command (map string_bytes words.now)).files }
     ensures opened { OnOk result
         (S.slots shelf.new ≡ S.slots shelf.old + (command (map string_bytes words.now)).files) }

@@ -1,13 +1,13 @@
-ghost use Rattle.std.specs.Prelude.{◌≡◌, ◌≢◌, ◌+◌, ◌≤◌, ◌<◌, ◌^◌, map, string_bytes, length, [], OnOk, OnErr, IfOk, IfErr, IsTrue, Err};
+ghost use Rattle.std.specs.Prelude.{◌≡◌, ◌≢◌, ◌+◌, ◌-◌, ◌≤◌, ◌<◌, ◌^◌, map, string_bytes, length, [], OnOk, OnErr, IfOk, IfErr, IsTrue, Err};
 ghost use Rattle.std.specs.Option.{ForSome};
 ghost use Rattle.dp_count.specs.Digits.{short_decimal};
 ghost use Rattle.dp_count.specs.Faults.{Rose};
 ghost use Rattle.dp_io.specs.Sink.{appended, AddsFront};
 ghost use Rattle.dp_law.specs.Releasing.{TakesFront};
 ghost use Rattle.dp_session.specs.Sessions.{IsSessionAt};
-ghost use Rattle.dp_runner.specs.Causes.{Answers, Kept, Runs};
+ghost use Rattle.dp_runner.specs.Causes.{Answers, Interrupts, Kept, Runs};
 ghost use Rattle.dp_runner.specs.Outcome.{Source, source_at};
-ghost use Rattle.dp_runner.specs.Sessions.{run_form, replay_form, rehearse_form, session_form_of, replay_form_of, rehearse_form_of, opened_at, opened, opened_by, stored, file_records, run_outcome, form_shape, replay_outcome, rehearse_outcome, seed_bytes};
+ghost use Rattle.dp_runner.specs.Sessions.{run_form, replay_form, rehearse_form, session_form_of, replay_form_of, rehearse_form_of, opened_at, opened, opened_by, stored, file_records, run_outcome, run_command, form_shape, replay_outcome, replay_command, rehearse_outcome, rehearse_command, seed_bytes};
 ghost use Rattle.dp_runner.specs.Stops.{row_of, is_silent};
 
 use crate::answering::answer_file;
@@ -227,6 +227,9 @@ pub(crate) fn run_session<S: Shelf, D: Draws, K: Sink>(
         (S.faults shelf.old) (S.faults shelf.new) (K.held out.old) (K.held out.new) (D.state draws.new) }
     ensures taken { result ≢ Err Stop.DrawFault → ForSome (S.files shelf.old) (λ files.
         TakesFront D.step (form_shape form.now files) (D.state draws.old) (D.state draws.new)) }
+    ensures interrupted { result ≡ Err Stop.ReadFault → S.slots shelf.new ≡ S.slots shelf.old + 3
+        → Interrupts (run_command form.now).queries (S.files shelf.old) (source_at D.step (D.state draws.old))
+        (S.left shelf.new (S.slots shelf.new - 1)) (K.held out.old) (K.held out.new) (D.state draws.new) }
     ensures no_usage { result ≢ Err Stop.Usage }
     ensures silent { IfErr result (λ reason.
         IsTrue (is_silent (row_of reason).status) → K.held out.new ≡ K.held out.old) }
@@ -254,6 +257,10 @@ pub(crate) fn run_replay<S: Shelf, K: Sink>(
     ensures runs { (source : Source) → Runs result (S.files shelf.old)
         (λ files. replay_outcome form.now files source) (S.faults shelf.old) (S.faults shelf.new)
         (K.held out.old) (K.held out.new) source.state }
+    ensures interrupted { (source : Source) → result ≡ Err Stop.ReadFault
+        → S.slots shelf.new ≡ S.slots shelf.old + 4
+        → Interrupts (replay_command form.now).queries (S.files shelf.old) source
+        (S.left shelf.new (S.slots shelf.new - 1)) (K.held out.old) (K.held out.new) source.state }
     ensures no_usage { result ≢ Err Stop.Usage }
     ensures silent { IfErr result (λ reason.
         IsTrue (is_silent (row_of reason).status) → K.held out.new ≡ K.held out.old) }
@@ -289,6 +296,10 @@ pub(crate) fn run_rehearse<S: Shelf, K: Sink>(
     ensures runs { (source : Source) → Runs result (S.files shelf.old)
         (λ files. rehearse_outcome form.now files source) (S.faults shelf.old) (S.faults shelf.new)
         (K.held out.old) (K.held out.new) source.state }
+    ensures interrupted { (source : Source) → result ≡ Err Stop.ReadFault
+        → S.slots shelf.new ≡ S.slots shelf.old + 3
+        → Interrupts (rehearse_command form.now).queries (S.files shelf.old) source
+        (S.left shelf.new (S.slots shelf.new - 1)) (K.held out.old) (K.held out.new) source.state }
     ensures no_usage { result ≢ Err Stop.Usage }
     ensures silent { IfErr result (λ reason.
         IsTrue (is_silent (row_of reason).status) → K.held out.new ≡ K.held out.old) }

@@ -1,12 +1,12 @@
-use Rattle.std.proofs.Common.{arith, ap, sym, subst, option_map, Err}
+use Rattle.std.proofs.Common.{◌≡◌, arith, ap, sym, subst, option_map, Err}
 use Rattle.std.proofs.lemmas.Result.{err_from_is_err_and}
 use Rattle.dp_io.specs.Lines.{LinesValue, remaining}
 use Rattle.dp_io.specs.Shelf.{Files, StartsFile}
 use Rattle.dp_runner.specs.declared.stop.Stop.TheVariants as stop
-use Rattle.dp_runner.specs.Answering.{answered, file_answered, file_shape}
+use Rattle.dp_runner.specs.Answering.{answered, interrupted, file_answered, file_shape}
 use Rattle.dp_runner.specs.Outcome.{or_stop, source_at}
 use Rattle.dp_runner.specs.Stops.{stop_of_open}
-use Rattle.dp_runner.proofs.FileRuns.{open-reason, runs-told, told-file, file-taken, none-taken}
+use Rattle.dp_runner.proofs.FileRuns.{open-reason, runs-told, told-file, file-taken, file-interrupted, none-taken}
 use Rattle.dp_runner.proofs.Runs.{runs-unread}
 use Rattle.dp_runner.proofs.WritesLast.{lines-none}
 use Rattle.dp_runner.proofs.answering.answer_file.Goals as goal
@@ -57,3 +57,15 @@ returns-clause-taken g c = λ other.
     (subst (λ n. StartsFile (g.S.Shelf.files c.args.shelf.now) c.args.name.now (g.S.Shelf.left c.open.new.self n))
     (sym (ap (λ (lines : LinesValue). lines.slot) c.in_ok-lines.ensures)) c.in_ok-slot.ensures.starts)
     (c.answer_lines.ensures.taken other)
+
+pub returns-clause-interrupted : goal.returns-clause-interrupted
+returns-clause-interrupted g c = λ failed opened files is.
+    let source = source_at g.D.Draws.step (g.D.Draws.state c.args.draws.now) in
+    let at : c.in_ok-lines.lines.slot ≡ c.in_ok-slot.slot = ap (λ (lines : LinesValue). lines.slot) c.in_ok-lines.ensures in
+    file-interrupted (g.S.Shelf.files c.args.shelf.now) files c.args.name.now c.in_ok-lines.lines c.in_ok-slot.slot _ _
+    (g.S.Shelf.left c.answer_lines.new.shelf) (interrupted source (g.A.Answerer.answering c.args.answerer.now)) _ _ _
+    c.in_ok-lines.ensures is
+    (subst (λ n. StartsFile (g.S.Shelf.files c.args.shelf.now) c.args.name.now (g.S.Shelf.left c.open.new.self n))
+    (sym at) c.in_ok-slot.ensures.starts)
+    (omega (arith, at, opened, c.in_ok-slot.ensures.slot))
+    (c.answer_lines.ensures.interrupted failed)

@@ -1,10 +1,10 @@
-use Rattle.std.proofs.Common.{◌∙◌, sym, ap, map, Some}
+use Rattle.std.proofs.Common.{◌∙◌, refl, sym, ap, map, Some}
 use Rattle.std.specs.Prelude.{string_bytes}
 use Rattle.dp_runner.specs.declared.form.Form.TheVariants as form
 use Rattle.dp_runner.specs.Forms.{command}
 use Rattle.dp_runner.specs.Outcome.{Source}
 use Rattle.dp_runner.proofs.FileRuns.{none-taken}
-use Rattle.dp_runner.proofs.FormRuns.{of-form, account-early, form-taken}
+use Rattle.dp_runner.proofs.FormRuns.{of-form, account-early, form-taken, form-interrupts, none-interrupts}
 use Rattle.dp_runner.proofs.SampleRuns.{few-records, kept-alone}
 use Rattle.dp_runner.proofs.SessionRuns.{never-falls}
 use Rattle.dp_runner.proofs.run.run.Goals as goal
@@ -137,3 +137,60 @@ pub returns-in-Some-Group-clause-source_later : goal.returns-in-Some-Group-claus
 returns-in-Some-Group-clause-source_later g c =
     never-falls c.run_release.result _ _ c.run_release.ensures.draw_fault c.run_release.ensures.draws_kept
     (g.met.D.Draws.few_faults c.args.draws.now)
+
+pub returns-in-Some-Run-clause-interrupted : goal.returns-in-Some-Run-clause-interrupted
+returns-in-Some-Run-clause-interrupted g c = λ failed.
+    let source : Source = record { step = g.D.Draws.step; state = g.D.Draws.state c.args.draws.now } in
+    form-interrupts (map string_bytes c.args.words.now) (form.Run c.in-Some-Run.form) (g.S.Shelf.files c.args.shelf.now) source _ _ _ _
+    (g.S.Shelf.slots c.args.shelf.now) _
+    (sym c.form_of.ensures ∙ c.in-Some-Run.is ∙ ap Some c.in-Some-Run.field-0-is)
+    (c.run_session.ensures.interrupted failed)
+
+pub returns-in-Some-Replay-clause-interrupted : goal.returns-in-Some-Replay-clause-interrupted
+returns-in-Some-Replay-clause-interrupted g c = λ failed.
+    let source : Source = record { step = g.D.Draws.step; state = g.D.Draws.state c.args.draws.now } in
+    form-interrupts (map string_bytes c.args.words.now) (form.Replay c.in-Some-Replay.form) (g.S.Shelf.files c.args.shelf.now) source _ _ _ _
+    (g.S.Shelf.slots c.args.shelf.now) _
+    (sym c.form_of.ensures ∙ c.in-Some-Replay.is ∙ ap Some c.in-Some-Replay.field-0-is)
+    (c.run_replay.ensures.interrupted source failed)
+
+pub returns-in-Some-Rehearse-clause-interrupted : goal.returns-in-Some-Rehearse-clause-interrupted
+returns-in-Some-Rehearse-clause-interrupted g c = λ failed.
+    let source : Source = record { step = g.D.Draws.step; state = g.D.Draws.state c.args.draws.now } in
+    form-interrupts (map string_bytes c.args.words.now) (form.Rehearse c.in-Some-Rehearse.form) (g.S.Shelf.files c.args.shelf.now) source _ _ _ _
+    (g.S.Shelf.slots c.args.shelf.now) _
+    (sym c.form_of.ensures ∙ c.in-Some-Rehearse.is ∙ ap Some c.in-Some-Rehearse.field-0-is)
+    (c.run_rehearse.ensures.interrupted source failed)
+
+pub returns-in-Some-Account-clause-interrupted : goal.returns-in-Some-Account-clause-interrupted
+returns-in-Some-Account-clause-interrupted g c = λ failed.
+    let source : Source = record { step = g.D.Draws.step; state = g.D.Draws.state c.args.draws.now } in
+    form-interrupts (map string_bytes c.args.words.now) (form.Account c.in-Some-Account.form) (g.S.Shelf.files c.args.shelf.now) source _ _ _ _
+    (g.S.Shelf.slots c.args.shelf.now) _
+    (sym c.form_of.ensures ∙ c.in-Some-Account.is ∙ ap Some c.in-Some-Account.field-0-is)
+    (c.run_account.ensures.interrupted source failed)
+
+pub returns-in-Some-Count-clause-interrupted : goal.returns-in-Some-Count-clause-interrupted
+returns-in-Some-Count-clause-interrupted g c = λ failed opened.
+    none-interrupts (map string_bytes c.args.words.now) (form.Count c.in-Some-Count.form) _ _ _ _ _ _
+    (sym c.form_of.ensures ∙ c.in-Some-Count.is ∙ ap Some c.in-Some-Count.field-0-is) refl
+
+pub returns-in-Some-Check-clause-interrupted : goal.returns-in-Some-Check-clause-interrupted
+returns-in-Some-Check-clause-interrupted g c = λ failed opened.
+    none-interrupts (map string_bytes c.args.words.now) (form.Check c.in-Some-Check.form) _ _ _ _ _ _
+    (sym c.form_of.ensures ∙ c.in-Some-Check.is ∙ ap Some c.in-Some-Check.field-0-is) refl
+
+pub returns-in-Some-Sample-clause-interrupted : goal.returns-in-Some-Sample-clause-interrupted
+returns-in-Some-Sample-clause-interrupted g c = λ failed opened.
+    none-interrupts (map string_bytes c.args.words.now) (form.Sample c.in-Some-Sample.records) _ _ _ _ _ _
+    (sym c.form_of.ensures ∙ c.in-Some-Sample.is ∙ ap Some c.in-Some-Sample.field-0-is) refl
+
+pub returns-in-Some-Post-clause-interrupted : goal.returns-in-Some-Post-clause-interrupted
+returns-in-Some-Post-clause-interrupted g c = λ failed opened.
+    none-interrupts (map string_bytes c.args.words.now) (form.Post c.in-Some-Post.form) _ _ _ _ _ _
+    (sym c.form_of.ensures ∙ c.in-Some-Post.is ∙ ap Some c.in-Some-Post.field-0-is) refl
+
+pub returns-in-Some-Group-clause-interrupted : goal.returns-in-Some-Group-clause-interrupted
+returns-in-Some-Group-clause-interrupted g c = λ failed opened.
+    none-interrupts (map string_bytes c.args.words.now) (form.Group c.in-Some-Group.form) _ _ _ _ _ _
+    (sym c.form_of.ensures ∙ c.in-Some-Group.is ∙ ap Some c.in-Some-Group.field-0-is) refl
