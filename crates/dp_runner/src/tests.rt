@@ -2,6 +2,7 @@ ghost use Rattle.std.specs.Prelude.{◌≤◌};
 
 mod account;
 mod check;
+mod read_faults;
 mod release;
 mod sample;
 mod sessions;

@@ -41,7 +41,7 @@ pub(super) fn run_with<D: Draws>(
 }
 
 /// The same, whose objects take such pieces.
-fn run_in_pieces<D: Draws>(
+pub(super) fn run_in_pieces<D: Draws>(
     rt: &impl AllocGlobal,
     words: &[&str],
     texts: Texts<'_>,
