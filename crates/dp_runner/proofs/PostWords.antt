@@ -1,9 +1,10 @@
 -- The changes that words name, one word after another.
-use Rattle.std.proofs.Common.{◌≡◌, ℕ, suc, ◌+◌, ◌<◌, List, [], ◌∷◌, ◌++◌, map, length, drop, get_or, Option, Some, None, refl, sym, ◌∙◌, ap, add-one, drop-cons, append_assoc, arith}
+use Rattle.std.proofs.Common.{◌≡◌, ℕ, suc, ◌+◌, ◌<◌, ◌≤◌, ◌&&◌, true, nat_le, List, [], ◌∷◌, ◌++◌, map, length, drop, get_or, Option, Some, None, refl, sym, ◌∙◌, ap, add-one, drop-cons, append_assoc, arith}
 use Rattle.std.specs.Prelude.{option_map, option_and_then}
-use Rattle.std.proofs.lemmas.List.{append-nil, drop_all}
+use Rattle.std.proofs.lemmas.Bool.Decides.{nat_tests}
+use Rattle.std.proofs.lemmas.List.{append-nil, drop_all, length-map}
 use Rattle.dp_post.specs.declared.post.Post.{Post}
-use Rattle.dp_runner.specs.Post.{post_of, posts_named}
+use Rattle.dp_runner.specs.Post.{post_of, posts_named, posts_of}
 
 -- changes before others
 abbrev pub behind : List Post → Option (List Post) → Option (List Post)
@@ -55,5 +56,14 @@ module _ {W : Type 0} (bytes : W → List ℕ) (words : List W) where
       → posts_named (map bytes words) ≡ Some front
   unfolding posts_named
   posts-last front so_far =
-      so_far ∙ ap (λ (ws : List W). behind front (posts_named (map bytes ws))) (drop_all words)
+      so_far ∙ ap (λ (ws : List W). behind front (posts_named (map bytes ws))) (drop_all (length words) words (omega arith))
       ∙ ap Some (append-nil front)
+
+  -- words of which there are as many as may be
+  pub posts-within : 1 ≤ length words → length words ≤ 16
+      → posts_of (map bytes words) ≡ posts_named (map bytes words)
+  posts-within some few =
+      let size = length-map words bytes in
+      let within : (nat_le 1 (length (map bytes words)) && nat_le (length (map bytes words)) 16) ≡ true =
+      grind (arith, nat_tests) in
+      rw within refl

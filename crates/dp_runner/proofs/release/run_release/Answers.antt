@@ -9,19 +9,19 @@ use Rattle.dp_runner.proofs.ReleaseRuns.{release-taken}
 use Rattle.dp_runner.proofs.Runs.{runs-unread, runs-after}
 use Rattle.dp_runner.proofs.release.run_release.Goals as goal
 
-pub returns-in_err-open_data-clause-runs : goal.returns-in_err-open_data-clause-runs
+pub returns-in_err-pipeline-clause-runs : goal.returns-in_err-pipeline-clause-runs
 unfolding release_outcome
-returns-in_err-open_data-clause-runs g c =
+returns-in_err-pipeline-clause-runs g c =
     let p = err_from_is_err_and c.from_residual.result c.from_residual.ensures.1 in
     let source = source_at g.D.Draws.step (g.D.Draws.state c.args.draws.now) in
     let names = g.R.OneRelease.names c.args.release.now in
-    rw (p.1, p.2) (runs-unread c.in_err-open_data.field-0.0 source
+    rw (p.1, p.2) (runs-unread c.in_err-pipeline.field-0.0 source
     (λ (files : Files) (found : Opened). slot_outcome source (g.R.OneRelease.slot c.args.release.now found))
     (g.S.Shelf.files c.args.shelf.now) (opened_at names.pipeline_name names.data_name) _ _ _
-    (rw (c.pipeline_name.ensures, c.data_name.ensures, c.names.ensures) at c.in_err-open_data.ensures.answers))
+    (rw (c.pipeline_name.ensures, c.data_name.ensures, c.names-names.ensures) at c.in_err-pipeline.ensures.answers))
 
-pub returns-in_err-open_data-clause-taken : goal.returns-in_err-open_data-clause-taken
-returns-in_err-open_data-clause-taken g c = λ other files is.
+pub returns-in_err-pipeline-clause-taken : goal.returns-in_err-pipeline-clause-taken
+returns-in_err-pipeline-clause-taken g c = λ other files is.
     none-taken g.D.Draws.step
     (release_shape (g.R.OneRelease.names c.args.release.now) (g.R.OneRelease.slot c.args.release.now) files)
     (g.D.Draws.state c.args.draws.now)
@@ -32,19 +32,17 @@ returns-clause-runs g c =
     let source = source_at g.D.Draws.step (g.D.Draws.state c.args.draws.now) in
     let names = g.R.OneRelease.names c.args.release.now in
     let told = g.S.Shelf.files c.args.shelf.now in
-    let found = c.in_ok-open_data.field-0 in
     runs-after c.write_release.result source
     (λ (files : Files) (both : Opened). slot_outcome source (g.R.OneRelease.slot c.args.release.now both))
-    told (opened_at names.pipeline_name names.data_name) (stored found.0 found.1)
+    told (opened_at names.pipeline_name names.data_name) (stored c.in_ok-pipeline.pipeline c.in_ok-pipeline.store)
     (g.S.Shelf.faults c.args.shelf.now) (g.S.Shelf.faults c.open_data.new.shelf) (g.S.Shelf.faults c.open_data.new.shelf)
     _ _ _ (omega arith)
-    (rw (c.pipeline_name.ensures, c.data_name.ensures, c.names.ensures) at c.in_ok-open_data.ensures.answers)
+    (rw (c.pipeline_name.ensures, c.data_name.ensures, c.names-names.ensures) at c.in_ok-pipeline.ensures.answers)
     (c.write_release.ensures.runs told (g.S.Shelf.faults c.open_data.new.shelf))
 
 pub returns-clause-taken : goal.returns-clause-taken
 returns-clause-taken g c = λ other.
-    let found = c.in_ok-open_data.field-0 in
     release-taken g.D.Draws.step (g.D.Draws.state c.args.draws.now) _ (g.R.OneRelease.names c.args.release.now)
-    (g.R.OneRelease.slot c.args.release.now) (g.S.Shelf.files c.args.shelf.now) (stored found.0 found.1)
-    (rw (c.pipeline_name.ensures, c.data_name.ensures, c.names.ensures) at c.in_ok-open_data.ensures.answers)
+    (g.R.OneRelease.slot c.args.release.now) (g.S.Shelf.files c.args.shelf.now) (stored c.in_ok-pipeline.pipeline c.in_ok-pipeline.store)
+    (rw (c.pipeline_name.ensures, c.data_name.ensures, c.names-names.ensures) at c.in_ok-pipeline.ensures.answers)
     (c.write_release.ensures.taken other)

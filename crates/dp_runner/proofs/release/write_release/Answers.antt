@@ -19,3 +19,6 @@ pub returns-in-Ok-clause-taken : goal.returns-in-Ok-clause-taken
 returns-in-Ok-clause-taken g c = λ other.
     let found = stored c.args.pipeline.now c.args.store.now in
     all-taken g.D.Draws.step _ (g.D.Draws.state c.args.draws.now) c.in-Ok.ensures.text.0 _ c.in-Ok.ensures.text.1
+
+pub returns-in-Err-NoMemory-clause-runs : goal.returns-in-Err-NoMemory-clause-runs
+returns-in-Err-NoMemory-clause-runs g c = λ told faults files is. lines-none _ _

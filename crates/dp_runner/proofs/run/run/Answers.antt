@@ -124,18 +124,18 @@ returns-in-Some-Post-clause-source_later g c =
 pub returns-in-Some-Group-clause-runs : goal.returns-in-Some-Group-clause-runs
 returns-in-Some-Group-clause-runs g c =
     let source : Source = record { step = g.D.Draws.step; state = g.D.Draws.state c.args.draws.now } in
-    of-form (map string_bytes c.args.words.now) (form.Group c.in-Some-Group.form) source c.run_release.result _ _ _ _ _ _
-    (sym c.form_of.ensures ∙ c.in-Some-Group.is ∙ ap Some c.in-Some-Group.field-0-is) c.run_release.ensures.runs
+    of-form (map string_bytes c.args.words.now) (form.Group c.in-Some-Group.form) source c.run_release-in-Some-Group.result _ _ _ _ _ _
+    (sym c.form_of.ensures ∙ c.in-Some-Group.is ∙ ap Some c.in-Some-Group.field-0-is) c.run_release-in-Some-Group.ensures.runs
 
 pub returns-in-Some-Group-clause-taken : goal.returns-in-Some-Group-clause-taken
 returns-in-Some-Group-clause-taken g c = λ other.
     form-taken (map string_bytes c.args.words.now) (form.Group c.in-Some-Group.form) g.D.Draws.step (g.D.Draws.state c.args.draws.now) _
     (g.S.Shelf.files c.args.shelf.now) (sym c.form_of.ensures ∙ c.in-Some-Group.is ∙ ap Some c.in-Some-Group.field-0-is)
-    (c.run_release.ensures.taken other)
+    (c.run_release-in-Some-Group.ensures.taken other)
 
 pub returns-in-Some-Group-clause-source_later : goal.returns-in-Some-Group-clause-source_later
 returns-in-Some-Group-clause-source_later g c =
-    never-falls c.run_release.result _ _ c.run_release.ensures.draw_fault c.run_release.ensures.draws_kept
+    never-falls c.run_release-in-Some-Group.result _ _ c.run_release-in-Some-Group.ensures.draw_fault c.run_release-in-Some-Group.ensures.draws_kept
     (g.met.D.Draws.few_faults c.args.draws.now)
 
 pub returns-in-Some-Run-clause-interrupted : goal.returns-in-Some-Run-clause-interrupted
