@@ -6,4 +6,3 @@ pub mod JoiningLaw
 pub mod Landing
 pub mod Suits
 pub mod Taking
-pub mod Units

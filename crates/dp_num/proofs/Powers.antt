@@ -2,7 +2,7 @@
 use Rattle.std.proofs.Common.{◌≡◌, ℕ, zero, suc, ◌+◌, ◌*◌, ◌^◌, ◌≤◌, ◌<◌, Bool, true, false, cond, Option, Some, None, refl, sym, ◌∙◌, ap, arith, eqb, leb}
 use Rattle.std.proofs.Math.Nat.{mul-le-mul_left, mul-le-mul_right, pow-suc, pow-zero, pow-le-pow_left, pow-le-pow_right, one-le-pow}
 use Rattle.std.proofs.lemmas.Bool.Decides.{nat_tests}
-use Rattle.dp_num.specs.Limits.{powers, powers_within}
+use Rattle.dp_num.specs.Limits.{powers, powers_within, ArePowers}
 
 refused : (t : Bool) (low high n limit : ℕ) → leb n limit ≡ t → cond {A = Option (ℕ × ℕ)} t (Some (low, high)) None ≡ None → limit < n
 refused true low high n limit e h = absurd cc
@@ -55,7 +55,7 @@ powers-past p q k u low high p1 q1 h a b e =
     powers-positive p q u (omega arith) ∙ powers_within-past (p ^ u) (q ^ u) (omega arith)
 
 -- what the powers are
-pub powers-some : (p q u low high : ℕ) → powers p q u ≡ Some (low, high) → (1 ≤ u) × (low ≡ p ^ u) × (high ≡ q ^ u) × (high + low ≤ 2 ^ 62)
+powers-some : (p q u low high : ℕ) → powers p q u ≡ Some (low, high) → (1 ≤ u) × (low ≡ p ^ u) × (high ≡ q ^ u) × (high + low ≤ 2 ^ 62)
 powers-some p q zero low high h = absurd (let e = powers-zero p q in cc)
 powers-some p q (suc u) low high h =
     let made = powers_within-some (p ^ suc u) (q ^ suc u) low high (sym (powers-positive p q (suc u) (omega arith)) ∙ h) in
@@ -73,9 +73,30 @@ pow-lt p q u h =
     let b : 1 ≤ q ^ u = one-le-pow u q (omega arith) in
     rw (pow-suc p u, pow-suc q u) (pow-lt_step p q (p ^ u) (q ^ u) h a b)
 
--- the powers of a ratio are the numbers of a ratio
-pub powers-below_one : (p q u low high : ℕ) → 1 ≤ p → p < q → powers p q u ≡ Some (low, high) → (1 ≤ low) × (low < high)
+powers-below_one : (p q u low high : ℕ) → 1 ≤ p → p < q → powers p q u ≡ Some (low, high) → (1 ≤ low) × (low < high)
 powers-below_one p q zero low high a b h = absurd (let e = powers-zero p q in cc)
 powers-below_one p q (suc u) low high a b h =
     let made = powers-some p q (suc u) low high h in
     (rw made.1 (one-le-pow (suc u) p (omega arith)), rw (made.1, made.2) (pow-lt p q u b))
+
+few-by : (few : Bool) (q u : ℕ) → leb u 62 ≡ few → 2 ≤ q → q ^ u ≤ 2 ^ 62 → u ≤ 62
+few-by true q u e h k = grind (arith, nat_tests)
+few-by false q u e h k =
+    let more : 63 ≤ u = grind (arith, nat_tests) in
+    let base : 2 ^ u ≤ q ^ u = pow-le-pow_left h u in
+    let grown : 2 ^ 63 ≤ 2 ^ u = pow-le-pow_right (omega arith) more in
+    absurd (omega arith)
+
+-- the powers of a ratio are the numbers of a ratio
+pub are-powers : (p q u : ℕ) (both : ℕ × ℕ) → 1 ≤ p → p < q → powers p q u ≡ Some both → ArePowers p q u both
+are-powers p q u both positive below h =
+    let some = powers-some p q u both.0 both.1 h in
+    let order = powers-below_one p q u both.0 both.1 positive below h in
+    record {
+      low = some.1;
+      high = some.2;
+      positive = order.0;
+      below_one = order.1;
+      bounded = some.3;
+      few = few-by (leb u 62) q u refl (omega arith) (omega (arith, some.2, some.3));
+    }

@@ -1,6 +1,6 @@
 ghost use Rattle.std.specs.Prelude.{◌≡◌, ◌≤◌, ◌<◌, ◌^◌, ◌+◌, ◌*◌, Some, is_ok, IfOk};
 ghost use Rattle.std.specs.Result.{result_ok};
-ghost use Rattle.dp_num.specs.Limits.{is_ratio, powers, powers_within};
+ghost use Rattle.dp_num.specs.Limits.{is_ratio, powers, powers_within, ArePowers};
 
 use crate::Bound;
 
@@ -48,9 +48,11 @@ impl Ratio {
         self.q
     }
 
-    /// p^u and q^u. `Bound` comes exactly where u = 0 or q^u + p^u > 2^62.
+    /// p^u and q^u, the numbers of a ratio again. `Bound` comes exactly where u = 0 or q^u + p^u > 2^62; so u is at
+    /// most 62 where they stand.
     pub fn powers(&self, u: u64) -> Result<(u64, u64), Bound>
-        ensures { result_ok result ≡ powers self.now.p self.now.q u }
+        ensures given { result_ok result ≡ powers self.now.p self.now.q u }
+        ensures facts { IfOk result (ArePowers self.now.p self.now.q u) }
     {
         if u == 0 {
             return Err(Bound);

@@ -18,12 +18,16 @@ abbrev pub bins_value : List ℤ → Value → Value
 bins_value edges (value.Ints xs) = value.Cats (map (edges_at_most edges) xs)
 bins_value edges v = v
 
+-- as many bins as there are edges, and one more
+abbrev pub bins_domain : List ℤ → Option ℕ → Domain
+bins_domain edges size = domain.Cats (length edges + 1) size
+
 -- from numbers to one more bin than there are edges, of the same size by the same metric
 abbrev pub bins_mapping : List ℤ → ℤ → ℤ → Option ℕ → Mapping
 bins_mapping edges lo hi size = record {
   input_domain = domain.Ints lo hi size;
   input_metric = list_metric size;
-  output_domain = domain.Cats (length edges + 1) size;
+  output_domain = bins_domain edges size;
   output_metric = list_metric size;
   function = bins_value edges;
   stability_map = capped;

@@ -1,10 +1,10 @@
-ghost use Rattle.std.specs.Prelude.{◌≡◌, ◌≤◌, ◌+◌, true, map, length, IfOk};
+ghost use Rattle.std.specs.Prelude.{◌≡◌, ◌≤◌, true, map, length, IfOk};
 ghost use Rattle.dp_domain.specs.Domains.{Fits};
 ghost use Rattle.dp_domain.specs.Edges.{edges_at_most, is_rising};
 ghost use Rattle.dp_domain.specs.declared.domains.Domain.TheVariants as domain;
 ghost use Rattle.dp_domain.proofs.Limits.{Fits-prop};
 ghost use Rattle.dp_law.specs.Making.{Makes};
-ghost use Rattle.dp_rowwise.specs.Bins.{bins_from};
+ghost use Rattle.dp_rowwise.specs.Bins.{bins_domain, bins_from};
 
 use dp_count::NoMemory;
 use dp_domain::{Cats, Domain, ITEM_LIMIT, Metric, Value, are_edges, edges_at_most};
@@ -22,7 +22,7 @@ pub struct Bins {
     hi: i64,
     size: Option<u32>,
     ghost input_fits: { Fits (domain.Ints lo hi size) } by { Fits-prop (domain.Ints lo hi size) },
-    ghost output_fits: { Fits (domain.Cats (length edges.items + 1) size) } by { Fits-prop (domain.Cats (length edges.items + 1) size) },
+    ghost output_fits: { Fits (bins_domain edges.items size) } by { Fits-prop (bins_domain edges.items size) },
     ghost rising: { is_rising edges.items ≡ true },
 }
 
