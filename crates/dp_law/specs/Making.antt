@@ -13,6 +13,11 @@ tested true true meaning = Ok meaning
 tested true false meaning = Err refused.Bound
 tested false good meaning = Err refused.Metric
 
+-- what is made with the two powers of a ratio, if they are there
+abbrev pub with_powers : {M : Type 0} → Option (ℕ × ℕ) → (ℕ × ℕ → Result M Refused) → Result M Refused
+with_powers None made = Err refused.Bound
+with_powers (Some both) made = made both
+
 -- the metric is Symmetric
 abbrev pub is_symmetric : Metric → Bool
 is_symmetric metrics.Symmetric = true
