@@ -1,3 +1,4 @@
+pub mod Parts
 pub mod Response
 pub mod ResponseProof
 pub mod ResponseWays

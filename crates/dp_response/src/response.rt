@@ -3,6 +3,8 @@ ghost use Rattle.std.specs.Option.{option_map};
 ghost use Rattle.std.specs.Result.{result_ok};
 ghost use Rattle.dp_count.specs.Faults.{HasCause};
 ghost use Rattle.dp_draws.specs.Taking.{take_draws};
+ghost use Rattle.dp_num.specs.Fractions.{fraction_of};
+ghost use Rattle.dp_num.specs.Limits.{ArePowers};
 ghost use Rattle.dp_domain.specs.Domains.{Fits, Has};
 ghost use Rattle.dp_domain.proofs.Limits.{Fits-prop};
 ghost use Rattle.dp_domain.specs.declared.domains.Domain.TheVariants as domain;
@@ -10,7 +12,7 @@ ghost use Rattle.dp_domain.specs.declared.values.Value.TheVariants as value;
 ghost use Rattle.dp_law.specs.declared.pieces.Piece.TheVariants as piece;
 ghost use Rattle.dp_law.specs.Making.{Makes};
 ghost use Rattle.dp_law.specs.Releasing.{Released, ReleaseCause, MemoryFirst};
-ghost use Rattle.dp_response.specs.Response.{draw_bound, other_value, reply, response_from};
+ghost use Rattle.dp_response.specs.Response.{draw_bound, other_value, response_from};
 
 use dp_count::{Failed, NoMemory, Shape};
 use dp_domain::{Domain, Metric, Value};
@@ -32,21 +34,20 @@ pub struct Response {
     low: u64,
     high: u64,
     ghost input_fits: { Fits (domain.Cat n) } by { Fits-prop (domain.Cat n) },
-    ghost few_units: { u ≤ 2 ^ 32 },
-    ghost low_is: { low ≡ ratio.p ^ u },
-    ghost high_is: { high ≡ ratio.q ^ u },
-    ghost positive: { 1 ≤ low },
-    ghost below_one: { low < high },
-    ghost bounded: { draw_bound n low high ≤ 2 ^ 62 },
+    ghost powers: { ArePowers ratio.p ratio.q u (low, high) },
+    ghost bounded: { draw_bound (record { n = n; low = low; high = high }) ≤ 2 ^ 62 },
 }
 
 impl Response {
+    ghost use Rattle.dp_response.specs.Parts.{numbers_of};
+    ghost use Rattle.dp_response.specs.Response.{reply};
+
     /// Randomised response with `u` units on the domain. `Kind` comes exactly where the domain is not `Cat`, `Metric`
     /// exactly where it is and the metric is not `Discrete`, and `Bound` exactly where neither comes and the powers p^u
     /// and q^u are refused or q^u + (n - 1)·p^u is greater than 2^62.
     pub fn new(domain: Domain, metric: Metric, ratio: Ratio, u: u64) -> Result<Response, Refused>
         requires { Fits domain }
-        ensures { Makes ⟦<Response as Measurement>⟧.mechanism result (response_from ratio.p ratio.q u domain metric) }
+        ensures { Makes ⟦<Response as Measurement>⟧.mechanism result (response_from (fraction_of ratio) u domain metric) }
     {
         let Domain::Cat { n } = domain else {
             return Err(Refused::Kind);
@@ -86,7 +87,7 @@ impl Response {
 
     /// The bound of the draw.
     fn draw_bound(&self) -> u64
-        ensures value { result ≡ draw_bound self.now.n self.now.low self.now.high }
+        ensures value { result ≡ draw_bound (numbers_of self.now) }
         ensures positive { 1 ≤ result }
         ensures bounded { result ≤ 2 ^ 62 }
     {
@@ -96,8 +97,8 @@ impl Response {
     /// The reply of a draw.
     fn reply(&self, truth: u32, draw: u64) -> u32
         requires truth { truth < self.now.n }
-        requires draw { draw < draw_bound self.now.n self.now.low self.now.high }
-        ensures { result ≡ reply self.now.low self.now.high truth draw }
+        requires draw { draw < draw_bound (numbers_of self.now) }
+        ensures { result ≡ reply (numbers_of self.now) truth draw }
     {
         if draw < self.high {
             return truth;
@@ -107,10 +108,11 @@ impl Response {
 }
 
 impl Measurement for Response {
+    ghost use Rattle.dp_response.specs.Parts.{numbers_of};
     ghost use Rattle.dp_response.specs.Response.{response};
     ghost use Rattle.dp_response.specs.ResponseProof.{response_law};
 
-    ghost mechanism = { λ r. response r.n r.ratio.p r.ratio.q r.u r.low r.high };
+    ghost mechanism = { λ r. response (fraction_of r.ratio) r.u (numbers_of r) };
 
     fn in_domain(&self) -> Domain {
         Domain::Cat { n: self.n }
@@ -157,14 +159,14 @@ impl Measurement for Response {
         Ok(Answer::from_vec(answer))
     }
 
-    ghost law = { λ r. response_law r.n r.ratio.p r.ratio.q r.u r.low r.high r.input_fits
-        (r.ratio.positive, r.ratio.below_one, r.ratio.small) r.positive r.below_one r.low_is r.high_is r.bounded };
+    ghost law = { λ r. response_law (fraction_of r.ratio) r.u (numbers_of r) r.input_fits
+        (r.ratio.positive, r.ratio.below_one, r.ratio.small) r.powers r.bounded };
 }
 
 /// Whether the bound of the draw is at most 2^62.
 fn is_bounded(n: u32, low: u64, high: u64) -> bool
     requires { 1 ≤ n }
-    ensures { result ≡ nat_le (draw_bound n low high) (2 ^ 62) }
+    ensures { result ≡ nat_le (draw_bound (record { n = n; low = low; high = high })) (2 ^ 62) }
 {
     u128::from(high) + u128::from(n - 1) * u128::from(low) <= MOST
 }
