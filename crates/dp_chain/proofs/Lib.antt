@@ -2,6 +2,7 @@ pub mod LineSteps
 pub mod Making
 pub mod MeasuredLines
 pub mod NoiseInputs
+pub mod NoiseMaking
 pub mod ReleaseMaking
 pub mod ReleaseSteps
 pub mod SmallReleases

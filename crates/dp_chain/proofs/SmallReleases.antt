@@ -3,26 +3,23 @@ use Rattle.std.proofs.Common.{◌≡◌, ℕ, ℤ, suc, ◌≤◌, ◌^◌, Bool
 use Rattle.std.proofs.Common.{refl, sym, subst, ◌∙◌, arith}
 use Rattle.std.specs.Prelude.{Result, IfOk, nat_le}
 use Rattle.dp_count.specs.Results.{◌>>=◌, on_ok}
-use Rattle.dp_num.specs.Limits.{Fraction, powers}
+use Rattle.dp_num.specs.Limits.{Fraction}
 use Rattle.dp_domain.specs.declared.domains.Domain.{Domain}
 use Rattle.dp_domain.specs.declared.domains.Domain.TheVariants as domain
 use Rattle.dp_domain.specs.declared.metrics.Metric.{Metric}
 use Rattle.dp_domain.specs.declared.metrics.Metric.TheVariants as metrics
-use Rattle.dp_domain.specs.Ranges.{is_narrow_range}
 use Rattle.dp_law.specs.declared.refusals.Refused.{Refused}
 use Rattle.dp_law.specs.declared.refusals.Refused.TheVariants as refused
 use Rattle.dp_law.specs.Mapping.{Mapping}
 use Rattle.dp_law.specs.Mechanism.{Mechanism}
 use Rattle.dp_law.specs.Joining.{measured}
-use Rattle.dp_geometric.specs.Geometric.{geometric, geometric_with}
-use Rattle.dp_response.specs.Response.{response, response_with, draw_bound}
-use Rattle.dp_choice.specs.Choice.{choice, choice_with, is_choice}
 use Rattle.dp_chain.specs.Lines.{line_on}
 use Rattle.dp_chain.specs.Releases.{part_on, parts_on, release_on, joined, all_pieces}
 use Rattle.dp_chain.specs.Stages.{noise_on}
 use Rattle.dp_chain.specs.declared.noise.Noise.{Noise}
 use Rattle.dp_chain.specs.declared.noise.Noise.TheVariants as noise
 use Rattle.dp_chain.specs.declared.noise.Part.{Part}
+use Rattle.dp_chain.proofs.NoiseMaking.{where-made}
 use Rattle.dp_chain.proofs.ReleaseMaking.{noise_after, part-more, parts-more, parts-none, parts-zero}
 use Rattle.dp_chain.proofs.ReleaseSteps.{pieces-cons, pieces-nil}
 
@@ -30,38 +27,17 @@ use Rattle.dp_chain.proofs.ReleaseSteps.{pieces-cons, pieces-nil}
 abbrev pub HasOnePiece : Result Mechanism Refused → Type 0
 HasOnePiece made = IfOk made (λ m. m.pieces ≡ 1)
 
-made-one : (good : Bool) (made : Mechanism) → made.pieces ≡ 1 → HasOnePiece (cond good (Ok made) (Err refused.Bound))
-made-one true made one = one
-made-one false made one = tt
-
-geometric-one : (both : Option (ℕ × ℕ)) (input : Domain) (p q u : ℕ) (lo hi : ℤ) → HasOnePiece (geometric_with input p q u lo hi both)
-geometric-one None input p q u lo hi = tt
-geometric-one (Some both) input p q u lo hi = made-one (is_narrow_range lo hi) (geometric input p q u lo hi both.0 both.1) refl
-
-response-one : (both : Option (ℕ × ℕ)) (n p q u : ℕ) → HasOnePiece (response_with n p q u both)
-response-one None n p q u = tt
-response-one (Some both) n p q u = made-one (nat_le (draw_bound n both.0 both.1) (2 ^ 62)) (response n p q u both.0 both.1) refl
-
-choice-one : (both : Option (ℕ × ℕ)) (len : ℕ) (least most : ℤ) (p q u : ℕ) (floor top : ℤ) →
-    HasOnePiece (choice_with len least most p q u floor top both)
-choice-one None len least most p q u floor top = tt
-choice-one (Some both) len least most p q u floor top =
-    made-one (is_choice len p q floor top both.0 both.1) (choice len least most p q u floor top both.0 both.1) refl
-
 noise-one : (ratio : Fraction) (n : Noise) (d : Domain) (m : Metric) → HasOnePiece (noise_on ratio n d m)
 unfolding noise_on
-noise-one ratio (noise.Geometric u lo hi) (domain.Int least most) metrics.Absolute =
-    geometric-one (powers ratio.p ratio.q u) (domain.Int least most) ratio.p ratio.q u lo hi
+noise-one ratio (noise.Geometric u lo hi) (domain.Int least most) metrics.Absolute = where-made HasOnePiece _ _ _ tt (λ both made good. refl)
 noise-one ratio (noise.Geometric u lo hi) (domain.Int least most) m = tt
-noise-one ratio (noise.Geometric u lo hi) (domain.IntVec len least most) metrics.L1 =
-    geometric-one (powers ratio.p ratio.q u) (domain.IntVec len least most) ratio.p ratio.q u lo hi
+noise-one ratio (noise.Geometric u lo hi) (domain.IntVec len least most) metrics.L1 = where-made HasOnePiece _ _ _ tt (λ both made good. refl)
 noise-one ratio (noise.Geometric u lo hi) (domain.IntVec len least most) m = tt
 noise-one ratio (noise.Geometric u lo hi) d m = tt
-noise-one ratio (noise.Response u) (domain.Cat n) metrics.Discrete = response-one (powers ratio.p ratio.q u) n ratio.p ratio.q u
+noise-one ratio (noise.Response u) (domain.Cat n) metrics.Discrete = where-made HasOnePiece _ _ _ tt (λ both made good. refl)
 noise-one ratio (noise.Response u) (domain.Cat n) m = tt
 noise-one ratio (noise.Response u) d m = tt
-noise-one ratio (noise.Choice u floor top) (domain.IntVec len least most) metrics.L1 =
-    choice-one (powers ratio.p ratio.q u) len least most ratio.p ratio.q u floor top
+noise-one ratio (noise.Choice u floor top) (domain.IntVec len least most) metrics.L1 = where-made HasOnePiece _ _ _ tt (λ both made good. refl)
 noise-one ratio (noise.Choice u floor top) (domain.IntVec len least most) m = tt
 noise-one ratio (noise.Choice u floor top) d m = tt
 

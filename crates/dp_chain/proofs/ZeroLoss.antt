@@ -1,9 +1,9 @@
 -- At the distance 0 every stability map and every privacy map gives 0.
 use Rattle.std.proofs.Common.{◌≡◌, ℕ, ℤ, ◌*◌, ◌^◌, min, Bool, true, false, ◌&&◌, cond, List, [], ◌∷◌, Option, Some, None, Ok, Err, refl, sym, subst, ◌∙◌, ap, arith}
-use Rattle.std.specs.Prelude.{Result, nat_le, option_and_then}
+use Rattle.std.specs.Prelude.{Result, option_and_then}
 use Rattle.std.specs.Int.{div_ceil}
 use Rattle.std.proofs.Math.Nat.{zero-div, zero-mod}
-use Rattle.dp_num.specs.Limits.{Fraction, capped, powers}
+use Rattle.dp_num.specs.Limits.{Fraction, capped}
 use Rattle.dp_domain.specs.declared.domains.Domain.{Domain}
 use Rattle.dp_domain.specs.declared.domains.Domain.TheVariants as domain
 use Rattle.dp_domain.specs.declared.metrics.Metric.{Metric}
@@ -16,15 +16,12 @@ use Rattle.dp_law.specs.Mechanism.{Mechanism}
 use Rattle.dp_aggregate.specs.Count.{has_lists, has_unsized_lists, count_mapping}
 use Rattle.dp_aggregate.specs.Sum.{sum_factor}
 use Rattle.dp_aggregate.specs.Histogram.{histogram_factor}
-use Rattle.dp_domain.specs.Ranges.{is_narrow_range}
-use Rattle.dp_geometric.specs.Geometric.{geometric, geometric_with}
-use Rattle.dp_response.specs.Response.{response, response_with, draw_bound}
-use Rattle.dp_choice.specs.Choice.{choice, choice_with, is_choice}
 use Rattle.dp_count.specs.Results.{◌>>=◌}
 use Rattle.dp_chain.specs.declared.noise.Noise.{Noise}
 use Rattle.dp_chain.specs.declared.noise.Noise.TheVariants as noise
 use Rattle.dp_chain.specs.Lines.{stages_on, line_map}
 use Rattle.dp_chain.proofs.LineSteps.{line_map-nil, line_map-cons}
+use Rattle.dp_chain.proofs.NoiseMaking.{where-made}
 use Rattle.dp_chain.proofs.Making.{first_and, stages-more, stages-none}
 use Rattle.dp_chain.specs.Stages.{stage_on, noise_on}
 use Rattle.dp_chain.specs.declared.stage.Stage.{Stage}
@@ -103,32 +100,16 @@ abbrev pub LossZero : Result Mechanism Refused → Type 0
 LossZero (Ok made) = made.privacy_map 0 ≡ Some 0
 LossZero (Err refusal) = Unit {0}
 
-made-zero : (good : Bool) (made : Mechanism) → made.privacy_map 0 ≡ Some 0 → LossZero (cond good (Ok made) (Err refused.Bound))
-made-zero true made zero_is = zero_is
-made-zero false made zero_is = tt
-
-number-zero : (both : Option (ℕ × ℕ)) (input : Domain) (p q u : ℕ) (lo hi : ℤ) → LossZero (geometric_with input p q u lo hi both)
-number-zero None input p q u lo hi = tt
-number-zero (Some both) input p q u lo hi = made-zero (is_narrow_range lo hi) (geometric input p q u lo hi both.0 both.1) (capped-zero (u * 0) (omega arith))
-
-response-zero : (both : Option (ℕ × ℕ)) (n p q u : ℕ) → LossZero (response_with n p q u both)
-response-zero None n p q u = tt
-response-zero (Some both) n p q u = made-zero (nat_le (draw_bound n both.0 both.1) (2 ^ 62)) (response n p q u both.0 both.1) (capped-zero (u * min 0 1) (omega arith))
-
-choice-zero : (both : Option (ℕ × ℕ)) (len : ℕ) (least most : ℤ) (p q u : ℕ) (floor top : ℤ) → LossZero (choice_with len least most p q u floor top both)
-choice-zero None len least most p q u floor top = tt
-choice-zero (Some both) len least most p q u floor top = made-zero (is_choice len p q floor top both.0 both.1) (choice len least most p q u floor top both.0 both.1) refl
-
 pub noise-zero : (ratio : Fraction) (n : Noise) (d : Domain) (m : Metric) → LossZero (noise_on ratio n d m)
 unfolding noise_on
-noise-zero ratio (noise.Geometric u lo hi) (domain.Int least most) metrics.Absolute = number-zero (powers ratio.p ratio.q u) (domain.Int least most) ratio.p ratio.q u lo hi
+noise-zero ratio (noise.Geometric u lo hi) (domain.Int least most) metrics.Absolute = where-made LossZero _ _ _ tt (λ both made good. capped-zero (u * 0) (omega arith))
 noise-zero ratio (noise.Geometric u lo hi) (domain.Int least most) m = tt
-noise-zero ratio (noise.Geometric u lo hi) (domain.IntVec len least most) metrics.L1 = number-zero (powers ratio.p ratio.q u) (domain.IntVec len least most) ratio.p ratio.q u lo hi
+noise-zero ratio (noise.Geometric u lo hi) (domain.IntVec len least most) metrics.L1 = where-made LossZero _ _ _ tt (λ both made good. capped-zero (u * 0) (omega arith))
 noise-zero ratio (noise.Geometric u lo hi) (domain.IntVec len least most) m = tt
 noise-zero ratio (noise.Geometric u lo hi) d m = tt
-noise-zero ratio (noise.Response u) (domain.Cat n) metrics.Discrete = response-zero (powers ratio.p ratio.q u) n ratio.p ratio.q u
+noise-zero ratio (noise.Response u) (domain.Cat n) metrics.Discrete = where-made LossZero _ _ _ tt (λ both made good. capped-zero (u * min 0 1) (omega arith))
 noise-zero ratio (noise.Response u) (domain.Cat n) m = tt
 noise-zero ratio (noise.Response u) d m = tt
-noise-zero ratio (noise.Choice u floor top) (domain.IntVec len least most) metrics.L1 = choice-zero (powers ratio.p ratio.q u) len least most ratio.p ratio.q u floor top
+noise-zero ratio (noise.Choice u floor top) (domain.IntVec len least most) metrics.L1 = where-made LossZero _ _ _ tt (λ both made good. refl)
 noise-zero ratio (noise.Choice u floor top) (domain.IntVec len least most) m = tt
 noise-zero ratio (noise.Choice u floor top) d m = tt

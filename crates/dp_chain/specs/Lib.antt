@@ -4,7 +4,9 @@ pub mod Line
 pub mod Lines
 pub mod LinesProof
 pub mod Meanings
+pub mod MeaningsProof
 pub mod PartMeanings
+pub mod PartMeaningsProof
 pub mod Release
 pub mod Releases
 pub mod ReleasesProof

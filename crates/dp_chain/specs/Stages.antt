@@ -49,6 +49,6 @@ stage_on (stage.Truncate most) domain metric = truncate_from most domain metric
 
 -- the measurement of the noise with the ratio, or its refusal
 unfoldable pub noise_on : Fraction → Noise → Domain → Metric → Result Mechanism Refused
-noise_on ratio (noise.Geometric u lo hi) domain metric = geometric_from ratio.p ratio.q u lo hi domain metric
-noise_on ratio (noise.Response u) domain metric = response_from ratio.p ratio.q u domain metric
-noise_on ratio (noise.Choice u floor top) domain metric = choice_from ratio.p ratio.q u floor top domain metric
+noise_on ratio (noise.Geometric u lo hi) domain metric = geometric_from ratio u lo hi domain metric
+noise_on ratio (noise.Response u) domain metric = response_from ratio u domain metric
+noise_on ratio (noise.Choice u floor top) domain metric = choice_from ratio u floor top domain metric

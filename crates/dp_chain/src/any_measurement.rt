@@ -1,6 +1,6 @@
 ghost use Rattle.dp_domain.specs.Domains.{Fits};
 ghost use Rattle.dp_law.specs.Making.{MakesOr};
-ghost use Rattle.dp_chain.specs.Meanings.{fraction_of};
+ghost use Rattle.dp_num.specs.Fractions.{fraction_of};
 ghost use Rattle.dp_chain.specs.Stages.{noise_on};
 
 use crate::noise::Noise;

@@ -3,9 +3,9 @@ ghost use Rattle.std.specs.Result.{result_ok};
 ghost use Rattle.dp_domain.specs.Domains.{Fits};
 ghost use Rattle.dp_domain.proofs.Limits.{Fits-prop};
 ghost use Rattle.dp_law.specs.Making.{MakesOr};
-ghost use Rattle.dp_chain.specs.Lines.{line_on, line_map, line_value, end_domain, end_metric, AreJoined, Runs};
-ghost use Rattle.dp_chain.specs.LinesProof.{AreJoined-prop};
-ghost use Rattle.dp_chain.specs.Meanings.{stage_mappings};
+ghost use Rattle.dp_chain.specs.Lines.{line_on, line_map, line_value, end_domain, end_metric, Runs};
+ghost use Rattle.dp_chain.specs.Meanings.{stage_mappings, StagesJoin};
+ghost use Rattle.dp_chain.specs.MeaningsProof.{StagesJoin-prop};
 
 use crate::any_transformation::AnyTransformation;
 use crate::stage::{Stage, Stages};
@@ -25,7 +25,7 @@ pub struct Line {
     to_metric: Metric,
     ghost fits: { Fits domain } by { Fits-prop domain },
     ghost end_fits: { Fits to_domain } by { Fits-prop to_domain },
-    ghost joined: { AreJoined domain metric (stage_mappings stages.items) } by { AreJoined-prop domain metric (stage_mappings stages.items) },
+    ghost joined: { StagesJoin domain metric stages.items } by { StagesJoin-prop domain metric stages.items },
     ghost ends: { end_domain domain (stage_mappings stages.items) ≡ to_domain },
     ghost ends_by: { end_metric metric (stage_mappings stages.items) ≡ to_metric },
 }
@@ -57,7 +57,7 @@ impl Line {
         ensures composed { let m = ⟦<Line as Transformation>⟧.mapping self.now in
             m ≡ composed m.input_domain m.input_metric (stage_mappings result.now) }
         ensures joined { let m = ⟦<Line as Transformation>⟧.mapping self.now in
-            AreJoined m.input_domain m.input_metric (stage_mappings result.now) }
+            StagesJoin m.input_domain m.input_metric result.now }
         ensures runs { let m = ⟦<Line as Transformation>⟧.mapping self.now in
             (v : Value) → Has m.input_domain v → Runs (stage_mappings result.now) v }
     {

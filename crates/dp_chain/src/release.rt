@@ -4,10 +4,10 @@ ghost use Rattle.dp_domain.specs.Domains.{Fits};
 ghost use Rattle.dp_domain.specs.Metrics.{SuitsMetric};
 ghost use Rattle.dp_domain.proofs.Limits.{Fits-prop};
 ghost use Rattle.dp_law.specs.Making.{MakesOr};
-ghost use Rattle.dp_chain.specs.Releases.{release_on, part_on, joined_shape, joined_answer, all_pieces, total_loss, cost_of, AreAlike, IsLike, TakeAll};
-ghost use Rattle.dp_chain.specs.Meanings.{fraction_of};
-ghost use Rattle.dp_chain.specs.PartMeanings.{part_mechanism, part_mechanisms};
-ghost use Rattle.dp_chain.specs.ReleasesProof.{AreAlike-prop};
+ghost use Rattle.dp_chain.specs.Releases.{release_on, part_on, joined_shape, joined_answer, all_pieces, total_loss, cost_of, IsLike, TakeAll};
+ghost use Rattle.dp_num.specs.Fractions.{fraction_of};
+ghost use Rattle.dp_chain.specs.PartMeanings.{part_mechanism, part_mechanisms, PartsAlike};
+ghost use Rattle.dp_chain.specs.PartMeaningsProof.{PartsAlike-prop};
 ghost use Rattle.dp_domain.proofs.Limits.{SuitsMetric-prop};
 ghost use Rattle.dp_law.specs.Releasing.{Released, ReleaseCause};
 
@@ -41,7 +41,7 @@ pub struct Release {
     ghost fits: { Fits domain } by { Fits-prop domain },
     ghost suits: { SuitsMetric domain metric } by { SuitsMetric-prop domain metric },
     ghost few: { length parts.items ≤ 16 },
-    ghost alike: { AreAlike (fraction_of ratio) domain metric (part_mechanisms parts.items) } by { AreAlike-prop (fraction_of ratio) domain metric (part_mechanisms parts.items) },
+    ghost alike: { PartsAlike ratio domain metric parts.items } by { PartsAlike-prop ratio domain metric parts.items },
 }
 
 impl Release {

@@ -1,5 +1,5 @@
 ghost use Rattle.std.specs.Prelude.{◌≡◌, ◌≤◌, length, IfErr};
-ghost use Rattle.dp_chain.specs.Meanings.{fraction_of};
+ghost use Rattle.dp_num.specs.Fractions.{fraction_of};
 ghost use Rattle.dp_pipeline.specs.Accepted.{release_cost, plans_made};
 ghost use Rattle.dp_pipeline.specs.Answers.{Answers, IsNumbered};
 

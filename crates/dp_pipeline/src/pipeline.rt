@@ -2,7 +2,7 @@ ghost use Rattle.std.specs.Prelude.{◌≡◌, IfErr, ◌≤◌, ◌^◌, ◌<�
 ghost use Rattle.dp_count.specs.Results.{on_ok};
 ghost use Rattle.dp_domain.specs.Domains.{Fits};
 ghost use Rattle.dp_domain.specs.Users.{user_metric};
-ghost use Rattle.dp_chain.specs.Meanings.{fraction_of};
+ghost use Rattle.dp_num.specs.Fractions.{fraction_of};
 ghost use Rattle.dp_pipeline.specs.Accepted.{accepted, plans_made, root_place, is_in_range, IsBounded, IsLimit, is_rule, ratio_of, siblings_open};
 ghost use Rattle.dp_pipeline.specs.Answers.{Answers, IsNumbered};
 ghost use Rattle.dp_pipeline.specs.Queries.{plan_named, HasCost};
@@ -36,7 +36,7 @@ pub struct Pipeline {
 
 impl Model for Pipeline {
     ghost use Rattle.dp_pipeline.specs.declared.content.Content.{Content};
-    ghost use Rattle.dp_chain.specs.Meanings.{fraction_of};
+    ghost use Rattle.dp_num.specs.Fractions.{fraction_of};
     ghost use Rattle.dp_pipeline.specs.Accepted.{IsAccepted};
 
     ghost Value = { Content };

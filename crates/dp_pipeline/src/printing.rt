@@ -2,7 +2,7 @@ ghost use Rattle.std.specs.Prelude.{◌≡◌, ◌++◌, ◌∷◌, [], ◌≤�
 ghost use Rattle.std.specs.Fmt as fmt;
 ghost use Rattle.dp_count.specs.Faults.{Rose};
 ghost use Rattle.dp_io.specs.Sink.{appended, AddsFront};
-ghost use Rattle.dp_chain.specs.Meanings.{fraction_of};
+ghost use Rattle.dp_num.specs.Fractions.{fraction_of};
 ghost use Rattle.dp_pipeline.specs.Accepted.{ratio_of, root_place};
 ghost use Rattle.dp_pipeline.specs.StageForms.{stage_word, noise_word, SpecValue};
 ghost use Rattle.dp_law.specs.Mechanism.{Mechanism};

@@ -1,6 +1,6 @@
 ghost use Rattle.std.specs.Prelude.{◌≡◌, ◌+◌, ◌≤◌, ◌^◌, None, Some, length, IfOk, OnOk, IsSome};
 ghost use Rattle.dp_budget.specs.Rules.{fresh, declared};
-ghost use Rattle.dp_chain.specs.Meanings.{fraction_of};
+ghost use Rattle.dp_num.specs.Fractions.{fraction_of};
 ghost use Rattle.dp_chain.specs.Lines.{line_on};
 ghost use Rattle.dp_chain.specs.Releases.{release_on, cost_of};
 ghost use Rattle.dp_tree.specs.History.{total};

@@ -1,5 +1,5 @@
 use Rattle.std.proofs.Common.{◌≡◌, drop}
-use Rattle.dp_chain.specs.Meanings.{fraction_of}
+use Rattle.dp_num.specs.Fractions.{fraction_of}
 use Rattle.dp_pipeline.specs.Accepted.{plans_made}
 use Rattle.dp_pipeline.proofs.costs.make_plans.Given as goal
 

@@ -1,5 +1,5 @@
 use Rattle.std.proofs.Common.{◌≡◌, ◌++◌, drop}
-use Rattle.dp_chain.specs.Meanings.{fraction_of}
+use Rattle.dp_num.specs.Fractions.{fraction_of}
 use Rattle.dp_pipeline.specs.Printing.{plain_lines}
 use Rattle.dp_pipeline.proofs.printing.push_parts.Given as goal
 
