@@ -6,7 +6,7 @@ use Rattle.dp_io.specs.Shelf.{Files}
 use Rattle.dp_domain.specs.Ranges.{is_narrow}
 use Rattle.dp_draws.specs.Taking.{take_draws}
 use Rattle.dp_draws.specs.Sources.{replay_step}
-use Rattle.dp_geometric.specs.OneCell.{cell_shape, cell_out}
+use Rattle.dp_geometric.specs.OneCell.{CellNumbers, cell_shape, cell_out}
 use Rattle.dp_runner.specs.declared.stop.Stop.{Stop}
 use Rattle.dp_runner.specs.declared.stop.Stop.TheVariants as stop
 use Rattle.dp_count.specs.Results.{◌>>=◌}
@@ -50,20 +50,17 @@ counted files name = do
   text ← file_text files name (2 ^ 30)
   Ok (length (raw text))
 
--- the answer's cell has the ratio 1 / 2
-abbrev pub ratio_low : ℕ
-ratio_low = 1
-
-abbrev pub ratio_high : ℕ
-ratio_high = 2
+-- the answer's cell: the range of the words, with the ratio 1 / 2
+abbrev pub count_cell : CountForm → CellNumbers
+count_cell form = record { lo = form.lo; hi = form.hi; low = 1; high = 2 }
 
 -- the draws for the cell, from a list of numbers
 abbrev pub cell_draws : CountForm → List ℕ → Option (List ℕ)
-cell_draws form numbers = (take_draws replay_step numbers (cell_shape form.lo form.hi ratio_low ratio_high)).draws
+cell_draws form numbers = (take_draws replay_step numbers (cell_shape (count_cell form))).draws
 
 -- the cell's answer to a number of records
 abbrev pub cell_answer : CountForm → ℕ → List ℕ → ℤ
-cell_answer form records draws = cell_out form.lo form.hi ratio_low ratio_high (pos records) draws
+cell_answer form records draws = cell_out (count_cell form) (pos records) draws
 
 -- the answer: the geometric release of the number of records
 unfoldable pub count_answer : CountForm → Files → Result ℤ Stop

@@ -4,7 +4,8 @@ ghost use Rattle.dp_count.specs.Faults.{Rose};
 ghost use Rattle.dp_domain.specs.Ranges.{IsNarrowRange};
 ghost use Rattle.dp_runner.specs.Causes.{Answers, Kept, Runs};
 ghost use Rattle.dp_runner.specs.Outcome.{Source, written_last};
-ghost use Rattle.dp_runner.specs.Count.{count_form, count_form_of, range_of, counted, cell_draws, cell_answer, count_answer, count_written, ratio_low, ratio_high};
+ghost use Rattle.dp_geometric.specs.Parts.{cell_of};
+ghost use Rattle.dp_runner.specs.Count.{count_form, count_form_of, range_of, counted, count_cell, cell_draws, cell_answer, count_answer, count_written};
 
 use crate::stop::Stop;
 use crate::texts::{MOST_DATA, read_file, read_replay};
@@ -62,10 +63,7 @@ impl CountForm<'_> {
 
     /// The cell of the range, with the ratio 1 / 2.
     fn cell(&self) -> Cell
-        ensures lo { result.lo ≡ self.now.lo }
-        ensures hi { result.hi ≡ self.now.hi }
-        ensures low { result.low ≡ ratio_low }
-        ensures high { result.high ≡ ratio_high }
+        ensures { cell_of result ≡ count_cell self.now }
     {
         Cell::new(self.lo, self.hi, 1, 2)
     }

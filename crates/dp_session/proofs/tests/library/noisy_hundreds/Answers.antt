@@ -4,28 +4,29 @@ use Rattle.dp_domain.specs.declared.domains.Domain.{Domain}
 use Rattle.dp_domain.specs.declared.domains.Domain.TheVariants as domain
 use Rattle.dp_domain.specs.declared.metrics.Metric.{Metric}
 use Rattle.dp_domain.specs.declared.metrics.Metric.TheVariants as metrics
+use Rattle.dp_law.specs.declared.refusals.Refused.{Refused}
 use Rattle.dp_law.specs.Mechanism.{Mechanism}
-use Rattle.dp_num.specs.Limits.{powers}
+use Rattle.dp_num.specs.Limits.{Fraction, powers}
 use Rattle.dp_geometric.specs.contracts.geometric.GeometricMeasurement.TheImpl.{ghosts as noise_ghosts}
-use Rattle.dp_geometric.specs.Geometric.{geometric_from, geometric_with, geometric}
+use Rattle.dp_geometric.specs.Geometric.{geometric_from}
+use Rattle.dp_chain.proofs.NoiseMaking.{where-made}
 use Rattle.dp_session.proofs.tests.library.noisy_hundreds.Goals as goal
 
 -- noise of 5 units loses 5 at the distance 1
-five-with : (lo hi : ℤ) (p q : ℕ) (both : Option (ℕ × ℕ)) (made : Mechanism)
-    → geometric_with (domain.Int lo hi) p q 5 (pos 0) (pos 200) both ≡ Ok made → made.privacy_map 1 ≡ Some 5
-five-with lo hi p q None made is_made = absurd (cc)
-five-with lo hi p q (Some both) made is_made =
-    let same : geometric (domain.Int lo hi) p q 5 (pos 0) (pos 200) both.0 both.1 ≡ made = cc in
-    ap (λ (m : Mechanism). m.privacy_map 1) (sym same)
+five-made : (made wanted : Mechanism) → made.privacy_map 1 ≡ Some 5 → Ok {E = Refused} made ≡ Ok wanted → wanted.privacy_map 1 ≡ Some 5
+five-made made wanted five same = let one : made ≡ wanted = cc in ap (λ (m : Mechanism). m.privacy_map 1) (sym one) ∙ five
 
-five-once : (lo hi : ℤ) (p q : ℕ) (from : Domain) (metric : Metric) (made : Mechanism)
+abbrev FiveIfMade : Mechanism → Result Mechanism Refused → Type 0
+FiveIfMade wanted r = r ≡ Ok wanted → wanted.privacy_map 1 ≡ Some 5
+
+five-once : (lo hi : ℤ) (ratio : Fraction) (from : Domain) (metric : Metric) (made : Mechanism)
     → from ≡ domain.Int lo hi → metric ≡ metrics.Absolute
-    → geometric_from p q 5 (pos 0) (pos 200) from metric ≡ Ok made → made.privacy_map 1 ≡ Some 5
-five-once lo hi p q from metric made is_number is_absolute is_made =
-    let there : geometric_from p q 5 (pos 0) (pos 200) (domain.Int lo hi) metrics.Absolute ≡ Ok made =
-    ap (λ (d : Domain). geometric_from p q 5 (pos 0) (pos 200) d metrics.Absolute) (sym is_number)
-    ∙ ap (geometric_from p q 5 (pos 0) (pos 200) from) (sym is_absolute) ∙ is_made in
-    five-with lo hi p q (powers p q 5) made there
+    → geometric_from ratio 5 (pos 0) (pos 200) from metric ≡ Ok made → made.privacy_map 1 ≡ Some 5
+five-once lo hi ratio from metric made is_number is_absolute is_made =
+    let there : geometric_from ratio 5 (pos 0) (pos 200) (domain.Int lo hi) metrics.Absolute ≡ Ok made =
+    ap (λ (d : Domain). geometric_from ratio 5 (pos 0) (pos 200) d metrics.Absolute) (sym is_number)
+    ∙ ap (geometric_from ratio 5 (pos 0) (pos 200) from) (sym is_absolute) ∙ is_made in
+    where-made (FiveIfMade made) (powers ratio.p ratio.q 5) _ _ (λ h. absurd (cc)) (λ both there good h. five-made _ made refl h) there
 
 -- what 1 comes to through a transformation and then a noise
 through : (out one : Option ℕ) (noise : Mechanism) → one ≡ Some 1
@@ -36,5 +37,5 @@ pub returns-clause-loss : goal.returns-clause-loss
 returns-clause-loss c =
     through _ _ (noise_ghosts.mechanism c.in-Ok-new.noise) c.hundreds_of_ages-hundreds.ensures.stable
     (ap (λ (m : Mechanism). m.privacy_map 1) c.in-Ok-new-2.ensures.2)
-    (five-once _ _ _ _ _ _ _ (c.out_domain.ensures ∙ c.hundreds_of_ages-hundreds.ensures.range) c.out_metric.ensures
+    (five-once _ _ _ _ _ _ (c.out_domain.ensures ∙ c.hundreds_of_ages-hundreds.ensures.range) c.out_metric.ensures
     c.in-Ok-new.ensures)
