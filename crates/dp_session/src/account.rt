@@ -3,20 +3,16 @@ ghost use Rattle.dp_count.specs.Faults.{Rose};
 ghost use Rattle.dp_io.specs.Sink.{appended};
 ghost use Rattle.dp_pipeline.specs.declared.content.Content.{Content};
 ghost use Rattle.dp_session.specs.Verdicts.{verdict, root_spent};
-ghost use Rattle.dp_session.specs.QueryLines.{account_line, end_line, task_text, admitted_text};
+ghost use Rattle.dp_session.specs.QueryLines.{account_line, end_line};
 ghost use Rattle.dp_session.specs.Settling.{StandAt, Settles, IfSettled};
-ghost use Rattle.dp_session.specs.Works.{task_of};
 ghost use Rattle.dp_session.specs.Accounts.{IsAccountAt, WritesLine, WritesEnd};
 
 use crate::end_line::end_line;
 use crate::faults::{AccountFault, EndFault, JudgeFault};
 use crate::queries::Queries;
-use crate::task::Task;
-use crate::text::{accepted_line, refused_line};
-use crate::work::Work;
+use crate::text::{admitted_line, refused_line};
 use dp_count::{Failed, NoMemory};
 use dp_io::{Sink, write_all};
-use dp_law::Measurement;
 use dp_num::Steps;
 use dp_pipeline::Pipeline;
 use std::alloc::Global;
@@ -130,30 +126,8 @@ fn line_text<L: Ledger>(
 {
     let mut steps = Steps::<L>::new(blank);
     match queries.settle(alloc, line, &mut steps) {
-        Ok(work) => {
-            let done = task_text(alloc, &work.task)?;
-            accepted_line(
-                alloc,
-                queries.answered(),
-                done.as_str(),
-                work.cost,
-                queries.spent(),
-            )
-        }
+        Ok(work) => admitted_line(alloc, queries.answered(), &work, queries.spent()),
         Err(JudgeFault::Refused(refused)) => refused_line(alloc, queries.answered(), &refused),
         Err(JudgeFault::NoMemory) => Err(NoMemory),
     }
-}
-
-/// What is written of a task: how many draws a release takes.
-fn task_text(alloc: Global, task: &Task) -> Result<String, NoMemory>
-    ensures { (node : ℕ) → IfOk result (λ text. string_bytes text ≡ task_text admitted_text node (task_of task.now)) }
-{
-    Ok(match task {
-        Task::Release(release) => {
-            let draws = release.draws();
-            format!(in alloc; "admitted draws {draws}")?
-        }
-        Task::Child(_) => format!(in alloc; "node")?,
-    })
 }

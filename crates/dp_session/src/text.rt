@@ -1,9 +1,13 @@
 ghost use Rattle.std.specs.Prelude.{◌≡◌, ◌++◌, string_bytes, IfOk, codes};
 ghost use Rattle.std.specs.Fmt as fmt;
-ghost use Rattle.dp_session.specs.QueryLines.{refusal_text, cost_text, numbered};
+ghost use Rattle.dp_session.specs.QueryLines.{refusal_text, cost_text, numbered, task_text, admitted_text};
+ghost use Rattle.dp_session.specs.Works.{task_of};
 
 use crate::refusal::Refusal;
+use crate::task::Task;
+use crate::work::Work;
 use dp_count::NoMemory;
+use dp_law::Measurement;
 use std::alloc::Global;
 
 /// The line of an accepted query, by what is written of its task.
@@ -19,7 +23,27 @@ pub(crate) fn accepted_line(
     Ok(format!(in alloc; "{number} {done} cost {cost} spent {spent}\n")?)
 }
 
-/// The line of a refused query.
+/// The line of an accepted query where there are no data: how many draws a release takes, or that a child is a node.
+pub(crate) fn admitted_line(
+    alloc: Global,
+    number: u32,
+    work: &Work,
+    spent: u64,
+) -> Result<String, NoMemory>
+    ensures { (node : ℕ) → IfOk result (λ line. string_bytes line ≡ numbered number
+        (task_text admitted_text node (task_of work.now.task) ++ cost_text work.now.cost spent)) }
+{
+    let cost = work.cost;
+    Ok(match &work.task {
+        Task::Release(release) => {
+            let draws = release.draws();
+            format!(in alloc; "{number} admitted draws {draws} cost {cost} spent {spent}\n")?
+        }
+        Task::Child(_) => format!(in alloc; "{number} node cost {cost} spent {spent}\n")?,
+    })
+}
+
+/// The line of a refused query: the number of the refusal, its word, and what it carries.
 pub(crate) fn refused_line(
     alloc: Global,
     number: u32,
@@ -28,25 +52,23 @@ pub(crate) fn refused_line(
     ensures { IfOk result (λ line. string_bytes line
         ≡ numbered number (codes "refused " ++ (refusal_text refused.now ++ codes "\n"))) }
 {
-    let text = refusal_text(alloc, refused)?;
-    Ok(format!(in alloc; "{number} refused {text}\n")?)
-}
-
-/// The number of a refusal, its word, and what it carries.
-fn refusal_text(alloc: Global, refused: &Refusal) -> Result<String, NoMemory>
-    ensures { IfOk result (λ text. string_bytes text ≡ refusal_text refused.now) }
-{
     Ok(match refused {
-        Refusal::Malformed => format!(in alloc; "1 malformed")?,
-        Refusal::NoNode => format!(in alloc; "2 no-node")?,
-        Refusal::Frozen { ancestor, later } => { format!(in alloc; "3 frozen {ancestor} {later}")? }
-        Refusal::Construction(number) => format!(in alloc; "4 construction {number}")?,
-        Refusal::Depth => format!(in alloc; "5 depth")?,
-        Refusal::ChildDistance { mapped } => format!(in alloc; "6 child-distance {mapped}")?,
+        Refusal::Malformed => format!(in alloc; "{number} refused 1 malformed\n")?,
+        Refusal::NoNode => format!(in alloc; "{number} refused 2 no-node\n")?,
+        Refusal::Frozen { ancestor, later } => {
+            format!(in alloc; "{number} refused 3 frozen {ancestor} {later}\n")?
+        }
+        Refusal::Construction(kind) => {
+            format!(in alloc; "{number} refused 4 construction {kind}\n")?
+        }
+        Refusal::Depth => format!(in alloc; "{number} refused 5 depth\n")?,
+        Refusal::ChildDistance { mapped } => {
+            format!(in alloc; "{number} refused 6 child-distance {mapped}\n")?
+        }
         Refusal::Budget(over) => {
             let cost = over.cost;
             let left = over.left;
-            format!(in alloc; "7 budget {cost} {left}")?
+            format!(in alloc; "{number} refused 7 budget {cost} {left}\n")?
         }
     })
 }
