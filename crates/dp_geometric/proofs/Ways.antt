@@ -1,5 +1,5 @@
 -- The number of draw lists of every answer of geometric noise.
-use Rattle.std.proofs.Common.{◌≡◌, ℕ, ◌+◌, ◌-◌, ◌*◌, ◌^◌, ◌<◌, ℤ, ◌≤ℤ◌, ◌<ℤ◌, Bool, true, false, ◌||◌, cond, List, [], ◌∷◌, map, inl, inr, refl, ◌∙◌, arith}
+use Rattle.std.proofs.Common.{◌≡◌, ◌+◌, ◌-◌, ◌*◌, ◌^◌, ◌<◌, ℤ, ◌≤ℤ◌, ◌<ℤ◌, Bool, true, false, ◌||◌, cond, List, [], ◌∷◌, map, inl, inr, refl, ◌∙◌, arith}
 use Rattle.std.specs.Prelude.{int_lt}
 use Rattle.std.specs.Ordering.{int_eq}
 use Rattle.std.proofs.lemmas.Int.{ints}
@@ -10,8 +10,8 @@ use Rattle.dp_domain.specs.declared.domains.Domain.TheVariants as domain
 use Rattle.dp_domain.specs.declared.values.Value.TheVariants as value
 use Rattle.dp_law.specs.declared.pieces.Piece.{Piece}
 use Rattle.dp_law.specs.declared.pieces.Piece.TheVariants as piece
-use Rattle.dp_geometric.specs.OneCell.{width}
-use Rattle.dp_geometric.specs.CellLaw as cell
+use Rattle.dp_geometric.specs.OneCell.{CellNumbers, width}
+use Rattle.dp_geometric.specs.CellLaw as cell_law
 use Rattle.dp_geometric.specs.CellLaw.{away, CellCounts}
 use Rattle.dp_geometric.specs.CellProof.{cell-counts}
 use Rattle.dp_geometric.specs.Geometric.{cell_slot}
@@ -31,54 +31,54 @@ single-answer : (lo hi a : ℤ) → lo ≡ hi → lo ≤ℤ a → a ≤ℤ hi �
 single-answer lo hi a e h k = omega (arith, ints)
 
 -- one cell, by the tests of the closed form
-cell-by : (lo hi v a : ℤ) (low high : ℕ) (under over one first last : Bool) → int_lt a lo ≡ under → int_lt hi a ≡ over → int_eq lo hi ≡ one → int_eq a lo ≡ first → int_eq a hi ≡ last →
-    lo ≤ℤ hi → CellCounts lo hi low high →
-    cell.ways lo hi low high v a ≡ cond (under || over) 0 (cond one (high + low) (cond (first || last) high (high - low) * low ^ away lo hi v a * high ^ (width lo hi - away lo hi v a)))
-cell-by lo hi v a low high true over one first last u o s f l order counts = counts.outside v a (inl (below a lo u))
-cell-by lo hi v a low high false true one first last u o s f l order counts = counts.outside v a (inr (below hi a o))
-cell-by lo hi v a low high false false true first last u o s f l order counts =
-    let same = (Decides-int_eq lo hi).0 s in
-    counts.single v a same (single-answer lo hi a same (not-below a lo u) (not-below hi a o))
-cell-by lo hi v a low high false false false true last u o s f l order counts = counts.ends v a (grind (arith, ints)) (inl ((Decides-int_eq a lo).0 f))
-cell-by lo hi v a low high false false false false true u o s f l order counts = counts.ends v a (grind (arith, ints)) (inr ((Decides-int_eq a hi).0 l))
-cell-by lo hi v a low high false false false false false u o s f l order counts = counts.inside v a (grind (arith, ints)) (grind (arith, ints))
+cell-by : (cell : CellNumbers) (v a : ℤ) (under over one first last : Bool) → int_lt a cell.lo ≡ under → int_lt cell.hi a ≡ over → int_eq cell.lo cell.hi ≡ one → int_eq a cell.lo ≡ first → int_eq a cell.hi ≡ last →
+    cell.lo ≤ℤ cell.hi → CellCounts cell →
+    cell_law.ways cell v a ≡ cond (under || over) 0 (cond one (cell.high + cell.low) (cond (first || last) cell.high (cell.high - cell.low) * cell.low ^ away cell v a * cell.high ^ (width cell - away cell v a)))
+cell-by cell v a true over one first last u o s f l order counts = counts.outside v a (inl (below a cell.lo u))
+cell-by cell v a false true one first last u o s f l order counts = counts.outside v a (inr (below cell.hi a o))
+cell-by cell v a false false true first last u o s f l order counts =
+    let same = (Decides-int_eq cell.lo cell.hi).0 s in
+    counts.single v a same (single-answer cell.lo cell.hi a same (not-below a cell.lo u) (not-below cell.hi a o))
+cell-by cell v a false false false true last u o s f l order counts = counts.ends v a (grind (arith, ints)) (inl ((Decides-int_eq a cell.lo).0 f))
+cell-by cell v a false false false false true u o s f l order counts = counts.ends v a (grind (arith, ints)) (inr ((Decides-int_eq a cell.hi).0 l))
+cell-by cell v a false false false false false u o s f l order counts = counts.inside v a (grind (arith, ints)) (grind (arith, ints))
 
-cell-is : (lo hi v a : ℤ) (low high : ℕ) → lo ≤ℤ hi → low < high → cell.ways lo hi low high v a ≡ cell_draws_for lo hi low high v a
-cell-is lo hi v a low high order less =
-    cell-by lo hi v a low high (int_lt a lo) (int_lt hi a) (int_eq lo hi) (int_eq a lo) (int_eq a hi) refl refl refl refl refl order (cell-counts lo hi low high order less)
+cell-is : (cell : CellNumbers) (v a : ℤ) → cell.lo ≤ℤ cell.hi → cell.low < cell.high → cell_law.ways cell v a ≡ cell_draws_for cell v a
+cell-is cell v a order less =
+    cell-by cell v a (int_lt a cell.lo) (int_lt cell.hi a) (int_eq cell.lo cell.hi) (int_eq a cell.lo) (int_eq a cell.hi) refl refl refl refl refl order (cell-counts cell order less)
 
 -- the cells of a vector
-cells-are : (lo hi : ℤ) (low high : ℕ) (zs answers : List ℤ) → lo ≤ℤ hi → low < high →
-    product_of_ways int_eq (map (cell_slot lo hi low high) zs) answers ≡ cells_draws_for lo hi low high zs answers
-unfolding product_of_ways cells_draws_for cell.ways
-cells-are lo hi low high [] [] order less = refl
-cells-are lo hi low high [] (a ∷ answers) order less = refl
-cells-are lo hi low high (z ∷ zs) [] order less = refl
-cells-are lo hi low high (z ∷ zs) (a ∷ answers) order less =
-    rw (cell-is lo hi z a low high order less, cells-are lo hi low high zs answers order less) refl
+cells-are : (cell : CellNumbers) (zs answers : List ℤ) → cell.lo ≤ℤ cell.hi → cell.low < cell.high →
+    product_of_ways int_eq (map (cell_slot cell) zs) answers ≡ cells_draws_for cell zs answers
+unfolding product_of_ways cells_draws_for cell_law.ways
+cells-are cell [] [] order less = refl
+cells-are cell [] (a ∷ answers) order less = refl
+cells-are cell (z ∷ zs) [] order less = refl
+cells-are cell (z ∷ zs) (a ∷ answers) order less =
+    rw (cell-is cell z a order less, cells-are cell zs answers order less) refl
 
-number-draws : (lo hi z : ℤ) (low high : ℕ) (answer : List Piece) → lo ≤ℤ hi → low < high → number_ways lo hi low high z answer ≡ draws_for lo hi low high (value.Int z) answer
+number-draws : (cell : CellNumbers) (z : ℤ) (answer : List Piece) → cell.lo ≤ℤ cell.hi → cell.low < cell.high → number_ways cell z answer ≡ draws_for cell (value.Int z) answer
 unfolding number_ways
-number-draws lo hi z low high [] order less = refl
-number-draws lo hi z low high (piece.Cat a ∷ rest) order less = refl
-number-draws lo hi z low high (piece.IntVec zs ∷ rest) order less = refl
-number-draws lo hi z low high (piece.Int a ∷ []) order less = cell-is lo hi z a low high order less
-number-draws lo hi z low high (piece.Int a ∷ (other ∷ rest)) order less = refl
+number-draws cell z [] order less = refl
+number-draws cell z (piece.Cat a ∷ rest) order less = refl
+number-draws cell z (piece.IntVec zs ∷ rest) order less = refl
+number-draws cell z (piece.Int a ∷ []) order less = cell-is cell z a order less
+number-draws cell z (piece.Int a ∷ (other ∷ rest)) order less = refl
 
-vector-draws : (lo hi : ℤ) (low high : ℕ) (zs : List ℤ) (answer : List Piece) → lo ≤ℤ hi → low < high → vector_ways lo hi low high zs answer ≡ draws_for lo hi low high (value.IntVec zs) answer
+vector-draws : (cell : CellNumbers) (zs : List ℤ) (answer : List Piece) → cell.lo ≤ℤ cell.hi → cell.low < cell.high → vector_ways cell zs answer ≡ draws_for cell (value.IntVec zs) answer
 unfolding vector_ways
-vector-draws lo hi low high zs [] order less = refl
-vector-draws lo hi low high zs (piece.Cat a ∷ rest) order less = refl
-vector-draws lo hi low high zs (piece.Int a ∷ rest) order less = refl
-vector-draws lo hi low high zs (piece.IntVec wanted ∷ []) order less =
-    count-replies int_eq (map (cell_slot lo hi low high) zs) wanted ∙ cells-are lo hi low high zs wanted order less
-vector-draws lo hi low high zs (piece.IntVec wanted ∷ (other ∷ rest)) order less = refl
+vector-draws cell zs [] order less = refl
+vector-draws cell zs (piece.Cat a ∷ rest) order less = refl
+vector-draws cell zs (piece.Int a ∷ rest) order less = refl
+vector-draws cell zs (piece.IntVec wanted ∷ []) order less =
+    count-replies int_eq (map (cell_slot cell) zs) wanted ∙ cells-are cell zs wanted order less
+vector-draws cell zs (piece.IntVec wanted ∷ (other ∷ rest)) order less = refl
 
 pub geometric-ways : WaysLaw
-geometric-ways (domain.Int least most) p q u lo hi low high (value.Int z) answer numeric has order less =
-    number-is least most lo hi p q u low high z answer ∙ number-draws lo hi z low high answer order less
-geometric-ways (domain.Int least most) p q u lo hi low high v answer numeric has order less = absurd has
-geometric-ways (domain.IntVec len least most) p q u lo hi low high (value.IntVec zs) answer numeric has order less =
-    vector-is least most lo hi p q u low high len zs answer has.0 ∙ vector-draws lo hi low high zs answer order less
-geometric-ways (domain.IntVec len least most) p q u lo hi low high v answer numeric has order less = absurd has
-geometric-ways input p q u lo hi low high v answer numeric has order less = absurd (cc)
+geometric-ways (domain.Int least most) ratio u cell (value.Int z) answer numeric has order less =
+    number-is least most z ratio u cell answer ∙ number-draws cell z answer order less
+geometric-ways (domain.Int least most) ratio u cell v answer numeric has order less = absurd has
+geometric-ways (domain.IntVec len least most) ratio u cell (value.IntVec zs) answer numeric has order less =
+    vector-is least most len zs ratio u cell answer has.0 ∙ vector-draws cell zs answer order less
+geometric-ways (domain.IntVec len least most) ratio u cell v answer numeric has order less = absurd has
+geometric-ways input ratio u cell v answer numeric has order less = absurd (cc)

@@ -5,3 +5,5 @@ pub mod Geometric
 pub mod GeometricProof
 pub mod GeometricWays
 pub mod OneCell
+pub mod Parts
+pub mod Small

@@ -37,6 +37,8 @@ pub struct Cell {
 }
 
 impl Cell {
+    ghost use Rattle.dp_geometric.specs.Parts.{cell_of};
+
     /// The cell of these numbers, with how many draw lists give each answer on each value, and the privacy of the
     /// answers.
     pub fn new(lo: i64, hi: i64, low: u64, high: u64) -> Cell
@@ -47,12 +49,9 @@ impl Cell {
         requires positive { 1 ≤ low }
         requires below_one { low < high }
         requires bounded { low + high ≤ 2 ^ 62 }
-        ensures lo { result.lo ≡ lo }
-        ensures hi { result.hi ≡ hi }
-        ensures low { result.low ≡ low }
-        ensures high { result.high ≡ high }
-        ensures counts { CellCounts result.lo result.hi result.low result.high }
-        ensures private { CellPrivate result.lo result.hi result.low result.high }
+        ensures numbers { cell_of result ≡ record { lo = lo; hi = hi; low = low; high = high } }
+        ensures counts { CellCounts (cell_of result) }
+        ensures private { CellPrivate (cell_of result) }
     {
         Cell { lo, hi, low, high }
     }
@@ -60,13 +59,10 @@ impl Cell {
     /// An answer on `v`: one draw below `high` + `low` and then `hi` - `lo` draws below `high` are taken. `Failed`
     /// comes exactly where one of these draws fails.
     pub fn step<D: Draws>(&self, v: i64, draws: &mut D) -> Result<i64, Failed>
-        ensures answer { result_ok result
-            ≡ option_map (cell_out self.now.lo self.now.hi self.now.low self.now.high v)
-            (take_draws D.step (D.state draws.old)
-            (cell_shape self.now.lo self.now.hi self.now.low self.now.high)).draws }
+        ensures answer { result_ok result ≡ option_map (cell_out (cell_of self.now) v)
+            (take_draws D.step (D.state draws.old) (cell_shape (cell_of self.now))).draws }
         ensures last { D.state draws.new
-            ≡ (take_draws D.step (D.state draws.old)
-            (cell_shape self.now.lo self.now.hi self.now.low self.now.high)).last }
+            ≡ (take_draws D.step (D.state draws.old) (cell_shape (cell_of self.now))).last }
         ensures cause { HasCause (D.faults draws.old) (D.faults draws.new) result }
     {
         let first = draws.below(self.high + self.low)?;
@@ -76,7 +72,7 @@ impl Cell {
 
     /// How many run draws one answer takes.
     pub(crate) fn width(&self) -> u64
-        ensures value { result ≡ width self.now.lo self.now.hi }
+        ensures value { result ≡ width (cell_of self.now) }
         ensures few { result ≤ 65535 }
     {
         (self.hi - self.lo) as u64
@@ -85,7 +81,7 @@ impl Cell {
     /// The noise of a first draw and a leading run.
     fn noise(&self, first: u64, run: u64) -> i64
         requires { run ≤ 65535 }
-        ensures value { result ≡ noise self.now.low self.now.high first run }
+        ensures value { result ≡ noise (cell_of self.now) first run }
         ensures least { neg_ℤ (pos 65536) ≤ℤ result }
         ensures greatest { result ≤ℤ pos 65536 }
     {

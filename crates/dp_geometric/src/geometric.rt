@@ -1,15 +1,18 @@
-ghost use Rattle.std.specs.Prelude.{◌≡◌, ◌≤◌, ◌+◌, ◌*◌, ◌^◌, ◌↔◌, pos, [], true, None, length, vec_capacity, IfOk, IsTrue};
+ghost use Rattle.std.specs.Prelude.{◌≡◌, ◌≤◌, ◌+◌, [], true, None, length, vec_capacity, IfOk};
 ghost use Rattle.std.specs.Option.{option_map};
 ghost use Rattle.std.specs.Result.{result_ok};
 ghost use Rattle.dp_count.specs.Faults.{HasCause};
 ghost use Rattle.dp_draws.specs.Taking.{take_draws};
+ghost use Rattle.dp_num.specs.Fractions.{fraction_of};
+ghost use Rattle.dp_num.specs.Limits.{ArePowers};
 ghost use Rattle.dp_domain.specs.Domains.{Fits, Has};
 ghost use Rattle.dp_domain.proofs.Limits.{Fits-prop};
 ghost use Rattle.dp_domain.specs.declared.values.Value.TheVariants as value;
 ghost use Rattle.dp_law.specs.Making.{Makes};
 ghost use Rattle.dp_law.specs.Releasing.{Released, ReleaseCause, MemoryFirst};
 ghost use Rattle.dp_geometric.specs.OneCell.{width, cell_shape};
-ghost use Rattle.dp_geometric.specs.Geometric.{cells_shape, cells_out, add_noise, is_numeric, numeric_metric, kind_refusal, geometric_from};
+ghost use Rattle.dp_geometric.specs.Geometric.{cells_shape, cells_out, add_noise, is_numeric, kind_refusal, geometric_from};
+ghost use Rattle.dp_geometric.specs.Parts.{cell_of};
 
 use crate::cells::Cell;
 use dp_count::{Failed, NoMemory, Shape};
@@ -29,9 +32,7 @@ pub struct Geometric {
     cell: Cell,
     ghost input_fits: { Fits input } by { Fits-prop input },
     ghost numeric: { is_numeric input ≡ true },
-    ghost few_units: { u ≤ 2 ^ 32 },
-    ghost low_is: { cell.low ≡ ratio.p ^ u },
-    ghost high_is: { cell.high ≡ ratio.q ^ u },
+    ghost powers: { ArePowers ratio.p ratio.q u (cell.low, cell.high) },
 }
 
 impl Geometric {
@@ -49,7 +50,7 @@ impl Geometric {
     ) -> Result<Geometric, Refused>
         requires { Fits domain }
         ensures { Makes ⟦<Geometric as Measurement>⟧.mechanism result
-            (geometric_from ratio.p ratio.q u lo hi domain metric) }
+            (geometric_from (fraction_of ratio) u lo hi domain metric) }
     {
         if let Some(refusal) = kind_refusal(domain, metric) {
             return Err(refusal);
@@ -73,7 +74,7 @@ impl Measurement for Geometric {
     ghost use Rattle.dp_geometric.specs.Geometric.{geometric};
     ghost use Rattle.dp_geometric.specs.GeometricProof.{geometric_law};
 
-    ghost mechanism = { λ g. geometric g.input g.ratio.p g.ratio.q g.u g.cell.lo g.cell.hi g.cell.low g.cell.high };
+    ghost mechanism = { λ g. geometric g.input (fraction_of g.ratio) g.u (cell_of g.cell) };
 
     fn in_domain(&self) -> Domain {
         self.input
@@ -129,9 +130,8 @@ impl Measurement for Geometric {
         }
     }
 
-    ghost law = { λ g. geometric_law g.input g.cell.lo g.cell.hi g.ratio.p g.ratio.q g.u g.cell.low g.cell.high
-        g.input_fits g.numeric (g.ratio.positive, g.ratio.below_one, g.ratio.small) g.low_is g.high_is
-        g.cell.ordered g.cell.narrow g.cell.below_one g.cell.bounded };
+    ghost law = { λ g. geometric_law g.input (fraction_of g.ratio) g.u (cell_of g.cell) g.input_fits g.numeric
+        (g.ratio.positive, g.ratio.below_one, g.ratio.small) g.powers g.cell.ordered g.cell.narrow };
 }
 
 /// The refusal by the domain's kind and the metric, if there is one.
@@ -148,7 +148,7 @@ fn kind_refusal(domain: Domain, metric: Metric) -> Option<Refused>
 
 /// How many draws one cell takes.
 fn cell_draws(cell: &Cell) -> u64
-    ensures value { result ≡ 1 + width cell.now.lo cell.now.hi }
+    ensures value { result ≡ 1 + width (cell_of cell.now) }
     ensures few { result ≤ 65536 }
 {
     1 + cell.width()
@@ -156,7 +156,7 @@ fn cell_draws(cell: &Cell) -> u64
 
 /// The shape of one cell.
 fn cell_shape(cell: &Cell, alloc: Global) -> Result<Shape, NoMemory>
-    ensures { IfOk result (λ shape. shape ≡ cell_shape cell.now.lo cell.now.hi cell.now.low cell.now.high) }
+    ensures { IfOk result (λ shape. shape ≡ cell_shape (cell_of cell.now)) }
 {
     let mut shape = Shape::one(alloc, cell.high + cell.low)?;
     shape.join(&Shape::repeat(alloc, cell.high, cell.width())?)?;
@@ -166,7 +166,7 @@ fn cell_shape(cell: &Cell, alloc: Global) -> Result<Shape, NoMemory>
 /// The shape of `count` cells.
 fn cells_shape(cell: &Cell, alloc: Global, count: u32) -> Result<Shape, NoMemory>
     requires { count ≤ 1024 }
-    ensures { IfOk result (λ shape. shape ≡ cells_shape count cell.now.lo cell.now.hi cell.now.low cell.now.high) }
+    ensures { IfOk result (λ shape. shape ≡ cells_shape count (cell_of cell.now)) }
 {
     let one = cell_shape(cell, alloc)?;
     let mut shape = Shape::new(alloc);
@@ -183,9 +183,8 @@ fn release_number<D: Draws>(
     number: i64,
     draws: &mut D,
 ) -> Result<Answer, ReleaseFault>
-    ensures released { Released D.step (cell_shape cell.now.lo cell.now.hi cell.now.low cell.now.high)
-        (add_noise cell.now.lo cell.now.hi cell.now.low cell.now.high (value.Int number)) (D.state draws.old) result
-        (D.state draws.new) }
+    ensures released { Released D.step (cell_shape (cell_of cell.now))
+        (add_noise (cell_of cell.now) (value.Int number)) (D.state draws.old) result (D.state draws.new) }
     ensures cause { ReleaseCause (D.faults draws.old) (D.faults draws.new) result }
     ensures memory_first { MemoryFirst (D.state draws.old) result (D.state draws.new) }
 {
@@ -205,10 +204,8 @@ fn release_vector<D: Draws>(
     numbers: &[i64],
     draws: &mut D,
 ) -> Result<Answer, ReleaseFault>
-    ensures released { Released D.step
-        (cells_shape (length numbers.now) cell.now.lo cell.now.hi cell.now.low cell.now.high)
-        (add_noise cell.now.lo cell.now.hi cell.now.low cell.now.high (value.IntVec numbers.now))
-        (D.state draws.old) result (D.state draws.new) }
+    ensures released { Released D.step (cells_shape (length numbers.now) (cell_of cell.now))
+        (add_noise (cell_of cell.now) (value.IntVec numbers.now)) (D.state draws.old) result (D.state draws.new) }
     ensures cause { ReleaseCause (D.faults draws.old) (D.faults draws.new) result }
     ensures memory_first { MemoryFirst (D.state draws.old) result (D.state draws.new) }
 {
@@ -231,12 +228,10 @@ fn step_each<D: Draws>(
     requires empty { given.old.items ≡ [] }
     requires room { length numbers.now ≤ vec_capacity given.old }
     ensures answers { option_map (λ _. given.new.items) (result_ok result)
-        ≡ option_map (cells_out cell.now.lo cell.now.hi cell.now.low cell.now.high numbers.now)
-        (take_draws D.step (D.state draws.old)
-        (cells_shape (length numbers.now) cell.now.lo cell.now.hi cell.now.low cell.now.high)).draws }
+        ≡ option_map (cells_out (cell_of cell.now) numbers.now)
+        (take_draws D.step (D.state draws.old) (cells_shape (length numbers.now) (cell_of cell.now))).draws }
     ensures last { D.state draws.new
-        ≡ (take_draws D.step (D.state draws.old)
-        (cells_shape (length numbers.now) cell.now.lo cell.now.hi cell.now.low cell.now.high)).last }
+        ≡ (take_draws D.step (D.state draws.old) (cells_shape (length numbers.now) (cell_of cell.now))).last }
     ensures cause { HasCause (D.faults draws.old) (D.faults draws.new) result }
 {
     for number in numbers {

@@ -5,8 +5,10 @@ use Rattle.dp_geometric.proofs.cells.Cell.new.Goals as goal
 
 pub returns-clause-counts : goal.returns-clause-counts
 returns-clause-counts c =
-    rw (to_z-of_z w64 c.args.lo c.ranges.lo, to_z-of_z w64 c.args.hi c.ranges.hi) (cell-counts c.args.lo c.args.hi c.args.low c.args.high c.requires.ordered c.requires.below_one)
+    rw (to_z-of_z w64 c.args.lo c.ranges.lo, to_z-of_z w64 c.args.hi c.ranges.hi)
+    (cell-counts _ c.requires.ordered c.requires.below_one)
 
 pub returns-clause-private : goal.returns-clause-private
 returns-clause-private c =
-    rw (to_z-of_z w64 c.args.lo c.ranges.lo, to_z-of_z w64 c.args.hi c.ranges.hi) (cell-private c.args.lo c.args.hi c.args.low c.args.high c.requires.ordered c.requires.below_one)
+    rw (to_z-of_z w64 c.args.lo c.ranges.lo, to_z-of_z w64 c.args.hi c.ranges.hi)
+    (cell-private _ c.requires.ordered c.requires.below_one)
