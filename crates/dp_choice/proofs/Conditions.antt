@@ -1,14 +1,15 @@
 -- What the conditions of a choice tell.
-use Rattle.std.proofs.Common.{◌≡◌, ℕ, ◌+◌, ◌-◌, ◌*◌, ◌^◌, ◌≤◌, ◌<◌, Bool, true, false, ◌&&◌, refl, arith, ℤ, pos, neg_ℤ, ◌-ℤ◌, ◌≤ℤ◌, nat_abs, w64, to_z, of_z}
+use Rattle.std.proofs.Common.{◌≡◌, ℕ, ◌+◌, ◌-◌, ◌*◌, ◌^◌, ◌≤◌, ◌<◌, Bool, true, false, ◌&&◌, refl, arith, ℤ, pos, neg_ℤ, ◌≤ℤ◌, w64, to_z, of_z}
 use Rattle.std.specs.Prelude.{int_lt, nat_le}
 use Rattle.std.proofs.lemmas.Int.{ints, to_z-of_z}
 use mir.Val.{SFits}
 use Rattle.std.proofs.lemmas.Bool.Decides.{nat_tests}
+use Rattle.dp_num.specs.Limits.{Fraction}
 use Rattle.dp_domain.specs.declared.domains.Domain.TheVariants as domain
 use Rattle.dp_domain.specs.Domains.{Fits}
 use Rattle.dp_domain.specs.Ranges.{is_narrow_range, IsNarrowRange}
 use Rattle.dp_domain.proofs.NarrowRanges.{narrow-range}
-use Rattle.dp_choice.specs.Weights.{weight, first_weight, all_draws, is_score_range, weights_fit}
+use Rattle.dp_choice.specs.Weights.{ChoiceNumbers, greatest, first_weight, all_draws, is_score_range, weights_fit}
 use Rattle.dp_choice.specs.Choice.{is_choice}
 use Rattle.dp_choice.specs.ChoicePrivacy.{HasRoom}
 
@@ -27,12 +28,12 @@ room-of len most p q order e =
     let room = nat-le _ (len * most * (q + p)) (all_draws * first_weight * (q - p)) refl fits.1 in
     (sum, omega (arith, room))
 
-pub is-choice : (len p q : ℕ) (floor top : ℤ) (low high : ℕ) → p < q → is_choice len p q floor top low high ≡ true →
-    IsNarrowRange floor top × (len * weight first_weight low high (nat_abs (top -ℤ floor)) ≤ all_draws) × HasRoom all_draws first_weight len p q floor top low high
-is-choice len p q floor top low high order e =
-    let both = both-of (is_score_range floor top) _ e in
-    let range = narrow-range floor top (both-of (int_lt floor top) (is_narrow_range floor top) both.0).1 in
-    let room = room-of len (weight first_weight low high (nat_abs (top -ℤ floor))) p q order both.1 in
+pub is-choice : (ratio : Fraction) (c : ChoiceNumbers) → ratio.p < ratio.q → is_choice ratio c ≡ true →
+    IsNarrowRange c.floor c.top × (c.len * greatest first_weight c ≤ all_draws) × HasRoom all_draws first_weight ratio c
+is-choice ratio c order e =
+    let both = both-of (is_score_range c.floor c.top) _ e in
+    let range = narrow-range c.floor c.top (both-of (int_lt c.floor c.top) (is_narrow_range c.floor c.top) both.0).1 in
+    let room = room-of c.len (greatest first_weight c) ratio.p ratio.q order both.1 in
     (range, room.0, room.1)
 
 fits-word : (z : ℤ) → neg_ℤ (pos (2 ^ 61)) ≤ℤ z → z ≤ℤ pos (2 ^ 61) → SFits w64 z

@@ -10,7 +10,7 @@ use Rattle.std.proofs.lemmas.Bool.Decides.{nat_tests}
 use Rattle.std.proofs.Math.ListN.{get_or-append}
 use Rattle.std.proofs.Math.Seq.{get_or-append_seam}
 use Rattle.std.proofs.Math.Nat.{le-div_iff_mul-le}
-use Rattle.dp_choice.specs.Weights.{weight, score, weights, weight_table}
+use Rattle.dp_choice.specs.Weights.{ChoiceNumbers, weight, score, weights, weight_table}
 use Rattle.dp_choice.specs.Shares.{last_below}
 use Rattle.dp_choice.specs.WeightProof.{length-weights}
 
@@ -70,25 +70,25 @@ within-limit true n limit x e h = (cc, grind (arith, nat_tests))
 within-limit false n limit x e h = absurd (cc)
 
 -- a score from words of 64 bits
-pub scored : (floor top cell near : ℤ) (r : ℕ) → SFits w64 cell → SFits w64 near → r ≡ nat_abs (to_z w64 (of_z w64 near) -ℤ floor) → near ≡ clamped floor top (to_z w64 (of_z w64 cell)) → r ≡ score floor top cell
-scored floor top cell near r fits_cell fits_near given e =
-    given ∙ ap (λ z. nat_abs (z -ℤ floor)) (to_z-of_z w64 near fits_near ∙ e ∙ ap (λ z. clamped floor top z) (to_z-of_z w64 cell fits_cell))
+pub scored : (c : ChoiceNumbers) (cell near : ℤ) (r : ℕ) → SFits w64 cell → SFits w64 near → r ≡ nat_abs (to_z w64 (of_z w64 near) -ℤ c.floor) → near ≡ clamped c.floor c.top (to_z w64 (of_z w64 cell)) → r ≡ score c cell
+scored c cell near r fits_cell fits_near given e =
+    given ∙ ap (λ z. nat_abs (z -ℤ c.floor)) (to_z-of_z w64 near fits_near ∙ e ∙ ap (λ z. clamped c.floor c.top z) (to_z-of_z w64 cell fits_cell))
 
 -- the weights of a vector, cell by cell
-weights-at : (first low high : ℕ) (floor top : ℤ) (cells : List ℤ) (i : ℕ) → i < length cells → get_or (weights first low high floor top cells) i 0 ≡ weight first low high (score floor top (get_or cells i (pos 0)))
+weights-at : (first : ℕ) (c : ChoiceNumbers) (cells : List ℤ) (i : ℕ) → i < length cells → get_or (weights first c cells) i 0 ≡ weight first c.low c.high (score c (get_or cells i (pos 0)))
 unfolding weights
-weights-at first low high floor top [] i h = absurd (omega arith)
-weights-at first low high floor top (z ∷ cells) zero h = refl
-weights-at first low high floor top (z ∷ cells) (suc i) h = weights-at first low high floor top cells i (omega arith)
+weights-at first c [] i h = absurd (omega arith)
+weights-at first c (z ∷ cells) zero h = refl
+weights-at first c (z ∷ cells) (suc i) h = weights-at first c cells i (omega arith)
 
-pub sum-more : (first low high : ℕ) (floor top : ℤ) (cells : List ℤ) (i : ℕ) → i < length cells →
-    sum (take (i + 1) (weights first low high floor top cells)) ≡ sum (take i (weights first low high floor top cells)) + weight first low high (score floor top (get_or cells i (pos 0)))
-sum-more first low high floor top cells i h =
-    let long = length-weights first low high floor top cells in
-    sum_by_more (λ n. n) (weights first low high floor top cells) i 0 (omega arith) ∙ ap (λ w. sum (take i (weights first low high floor top cells)) + w) (weights-at first low high floor top cells i h)
+pub sum-more : (first : ℕ) (c : ChoiceNumbers) (cells : List ℤ) (i : ℕ) → i < length cells →
+    sum (take (i + 1) (weights first c cells)) ≡ sum (take i (weights first c cells)) + weight first c.low c.high (score c (get_or cells i (pos 0)))
+sum-more first c cells i h =
+    let long = length-weights first c cells in
+    sum_by_more (λ n. n) (weights first c cells) i 0 (omega arith) ∙ ap (λ w. sum (take i (weights first c cells)) + w) (weights-at first c cells i h)
 
-pub sum-part : (first low high : ℕ) (floor top : ℤ) (cells : List ℤ) (i : ℕ) → sum (take i (weights first low high floor top cells)) ≤ sum (weights first low high floor top cells)
-sum-part first low high floor top cells i = sum_by-take-le (λ n. n) (weights first low high floor top cells) i
+pub sum-part : (first : ℕ) (c : ChoiceNumbers) (cells : List ℤ) (i : ℕ) → sum (take i (weights first c cells)) ≤ sum (weights first c cells)
+sum-part first c cells i = sum_by-take-le (λ n. n) (weights first c cells) i
 
 pub last-next : (n : ℕ) (test : ℕ → Bool) → last_below (suc n) test ≡ cond (test n) n (last_below n test)
 unfolding last_below

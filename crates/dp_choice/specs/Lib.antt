@@ -2,6 +2,7 @@ pub mod Choice
 pub mod ChoicePrivacy
 pub mod ChoiceProof
 pub mod ChoiceWays
+pub mod Parts
 pub mod PlaceProof
 pub mod ShareProof
 pub mod Shares

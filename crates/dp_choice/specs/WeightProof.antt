@@ -9,7 +9,7 @@ use Rattle.dp_count.specs.Ratios.{KeepsRatio}
 use Rattle.dp_count.proofs.Ratios.{ratio-more, ratio-add}
 use Rattle.dp_domain.specs.Distance.{l1}
 use Rattle.dp_domain.proofs.VectorDistance.{l1-cons}
-use Rattle.dp_choice.specs.Weights.{weight, score, weights}
+use Rattle.dp_choice.specs.Weights.{ChoiceNumbers, weight, score, weights, greatest}
 
 -- one step of the score
 weight-step : (first low high s : ℕ) → weight first low high (suc s) * low ≤ weight first low high s * high
@@ -62,72 +62,67 @@ weight-most first low high s t k l h =
     subst (λ (x : ℕ). weight first low high s ≤ weight first low high x) same (weight-rise first low high s (t - s) k l)
 
 -- scores of numbers that are near, and the greatest score
-score-near : (floor top x y : ℤ) → floor ≤ℤ top → score floor top x ≤ score floor top y + nat_abs (x -ℤ y)
-score-near floor top x y h = omega (arith, ints, clamps)
+score-near : (c : ChoiceNumbers) (x y : ℤ) → c.floor ≤ℤ c.top → score c x ≤ score c y + nat_abs (x -ℤ y)
+score-near c x y h = omega (arith, ints, clamps)
 
-pub score-most : (floor top z : ℤ) → floor ≤ℤ top → score floor top z ≤ nat_abs (top -ℤ floor)
-score-most floor top z h = omega (arith, ints, clamps)
+pub score-most : (c : ChoiceNumbers) (z : ℤ) → c.floor ≤ℤ c.top → score c z ≤ nat_abs (c.top -ℤ c.floor)
+score-most c z h = omega (arith, ints, clamps)
 
-weights-cons : (first low high : ℕ) (floor top z : ℤ) (zs : List ℤ) → weights first low high floor top (z ∷ zs) ≡ weight first low high (score floor top z) ∷ weights first low high floor top zs
+weights-cons : (first : ℕ) (c : ChoiceNumbers) (z : ℤ) (zs : List ℤ) → weights first c (z ∷ zs) ≡ weight first c.low c.high (score c z) ∷ weights first c zs
 unfolding weights
-weights-cons first low high floor top z zs = refl
+weights-cons first c z zs = refl
 
-weights-none : (first low high : ℕ) (floor top : ℤ) → weights first low high floor top [] ≡ []
+pub length-weights : (first : ℕ) (c : ChoiceNumbers) (zs : List ℤ) → length (weights first c zs) ≡ length zs
 unfolding weights
-weights-none first low high floor top = refl
-
-pub length-weights : (first low high : ℕ) (floor top : ℤ) (zs : List ℤ) → length (weights first low high floor top zs) ≡ length zs
-unfolding weights
-length-weights first low high floor top [] = refl
-length-weights first low high floor top (z ∷ zs) = ap suc (length-weights first low high floor top zs)
+length-weights first c [] = refl
+length-weights first c (z ∷ zs) = ap suc (length-weights first c zs)
 
 -- the sum of the weights of vectors that are near
-pub weights-near : (first low high d : ℕ) (floor top : ℤ) (xs ys : List ℤ) → 1 ≤ low → low ≤ high → floor ≤ℤ top → length xs ≡ length ys → l1 xs ys ≤ d →
-    KeepsRatio low high d (sum (weights first low high floor top xs)) (sum (weights first low high floor top ys))
+pub weights-near : (first d : ℕ) (c : ChoiceNumbers) (xs ys : List ℤ) → 1 ≤ c.low → c.low ≤ c.high → c.floor ≤ℤ c.top → length xs ≡ length ys → l1 xs ys ≤ d →
+    KeepsRatio c.low c.high d (sum (weights first c xs)) (sum (weights first c ys))
 unfolding weights
-weights-near first low high d floor top [] [] k l f h near = omega arith
-weights-near first low high d floor top [] (y ∷ ys) k l f h near = absurd (omega arith)
-weights-near first low high d floor top (x ∷ xs) [] k l f h near = absurd (omega arith)
-weights-near first low high d floor top (x ∷ xs) (y ∷ ys) k l f h near =
+weights-near first d c [] [] k l f h near = omega arith
+weights-near first d c [] (y ∷ ys) k l f h near = absurd (omega arith)
+weights-near first d c (x ∷ xs) [] k l f h near = absurd (omega arith)
+weights-near first d c (x ∷ xs) (y ∷ ys) k l f h near =
     let cons = l1-cons x y xs ys in
-    let scores = score-near floor top x y f in
-    let head = weight-near first low high (score floor top x) (score floor top y) d k l (omega arith) in
-    let tail = weights-near first low high d floor top xs ys k l f (omega arith) (omega arith) in
-    rw (sum_by-cons, sum_by-cons) (ratio-add low high d _ _ _ _ head tail)
+    let scores = score-near c x y f in
+    let head = weight-near first c.low c.high (score c x) (score c y) d k l (omega arith) in
+    let tail = weights-near first d c xs ys k l f (omega arith) (omega arith) in
+    rw (sum_by-cons, sum_by-cons) (ratio-add c.low c.high d _ _ _ _ head tail)
 
 -- the weight of one cell of vectors that are near
-pub cell-near : (first low high d : ℕ) (floor top : ℤ) (xs ys : List ℤ) (j : ℕ) → 1 ≤ low → low ≤ high → floor ≤ℤ top → length xs ≡ length ys → l1 xs ys ≤ d → j < length xs →
-    KeepsRatio low high d (slice_index (weights first low high floor top xs) j) (slice_index (weights first low high floor top ys) j)
+pub cell-near : (first d : ℕ) (c : ChoiceNumbers) (xs ys : List ℤ) (j : ℕ) → 1 ≤ c.low → c.low ≤ c.high → c.floor ≤ℤ c.top → length xs ≡ length ys → l1 xs ys ≤ d → j < length xs →
+    KeepsRatio c.low c.high d (slice_index (weights first c xs) j) (slice_index (weights first c ys) j)
 unfolding weights
-cell-near first low high d floor top [] ys j k l f h near below = absurd (omega arith)
-cell-near first low high d floor top (x ∷ xs) [] j k l f h near below = absurd (omega arith)
-cell-near first low high d floor top (x ∷ xs) (y ∷ ys) zero k l f h near below =
+cell-near first d c [] ys j k l f h near below = absurd (omega arith)
+cell-near first d c (x ∷ xs) [] j k l f h near below = absurd (omega arith)
+cell-near first d c (x ∷ xs) (y ∷ ys) zero k l f h near below =
     let cons = l1-cons x y xs ys in
-    let scores = score-near floor top x y f in
-    weight-near first low high (score floor top x) (score floor top y) d k l (omega arith)
-cell-near first low high d floor top (x ∷ xs) (y ∷ ys) (suc j) k l f h near below =
+    let scores = score-near c x y f in
+    weight-near first c.low c.high (score c x) (score c y) d k l (omega arith)
+cell-near first d c (x ∷ xs) (y ∷ ys) (suc j) k l f h near below =
     let cons = l1-cons x y xs ys in
-    cell-near first low high d floor top xs ys j k l f (omega arith) (omega arith) (omega arith)
+    cell-near first d c xs ys j k l f (omega arith) (omega arith) (omega arith)
 
-pub cell-least : (first low high : ℕ) (floor top : ℤ) (xs : List ℤ) (j : ℕ) → 1 ≤ low → low ≤ high → j < length xs → first ≤ slice_index (weights first low high floor top xs) j
+pub cell-least : (first : ℕ) (c : ChoiceNumbers) (xs : List ℤ) (j : ℕ) → 1 ≤ c.low → c.low ≤ c.high → j < length xs → first ≤ slice_index (weights first c xs) j
 unfolding weights
-cell-least first low high floor top [] j k l below = absurd (omega arith)
-cell-least first low high floor top (x ∷ xs) zero k l below = weight-least first low high (score floor top x) k l
-cell-least first low high floor top (x ∷ xs) (suc j) k l below = cell-least first low high floor top xs j k l (omega arith)
+cell-least first c [] j k l below = absurd (omega arith)
+cell-least first c (x ∷ xs) zero k l below = weight-least first c.low c.high (score c x) k l
+cell-least first c (x ∷ xs) (suc j) k l below = cell-least first c xs j k l (omega arith)
 
 -- the sum of the weights is at most so many times the greatest weight, and at least 1
-pub weights-most : (first low high : ℕ) (floor top : ℤ) (xs : List ℤ) → 1 ≤ low → low ≤ high → floor ≤ℤ top →
-    sum (weights first low high floor top xs) ≤ length xs * weight first low high (nat_abs (top -ℤ floor))
+pub weights-most : (first : ℕ) (c : ChoiceNumbers) (xs : List ℤ) → 1 ≤ c.low → c.low ≤ c.high → c.floor ≤ℤ c.top → sum (weights first c xs) ≤ length xs * greatest first c
 unfolding weights
-weights-most first low high floor top [] k l f = omega arith
-weights-most first low high floor top (x ∷ xs) k l f =
-    let ih = weights-most first low high floor top xs k l f in
-    let one = weight-most first low high (score floor top x) (nat_abs (top -ℤ floor)) k l (score-most floor top x f) in
+weights-most first c [] k l f = omega arith
+weights-most first c (x ∷ xs) k l f =
+    let ih = weights-most first c xs k l f in
+    let one = weight-most first c.low c.high (score c x) (nat_abs (c.top -ℤ c.floor)) k l (score-most c x f) in
     rw (sum_by-cons, suc-mul) (omega arith)
 
-pub weights-positive : (first low high : ℕ) (floor top : ℤ) (xs : List ℤ) → 1 ≤ first → 1 ≤ low → low ≤ high → 1 ≤ length xs → 1 ≤ sum (weights first low high floor top xs)
+pub weights-positive : (first : ℕ) (c : ChoiceNumbers) (xs : List ℤ) → 1 ≤ first → 1 ≤ c.low → c.low ≤ c.high → 1 ≤ length xs → 1 ≤ sum (weights first c xs)
 unfolding weights
-weights-positive first low high floor top [] p k l h = absurd (omega arith)
-weights-positive first low high floor top (x ∷ xs) p k l h =
-    let one = weight-least first low high (score floor top x) k l in
+weights-positive first c [] p k l h = absurd (omega arith)
+weights-positive first c (x ∷ xs) p k l h =
+    let one = weight-least first c.low c.high (score c x) k l in
     rw sum_by-cons (omega arith)

@@ -2,18 +2,33 @@
 use Rattle.std.specs.Prelude.{◌≡◌, ◌≤◌, ◌<◌, ℕ, zero, suc, ◌+◌, ◌-◌, ◌*◌, ◌/◌, ◌^◌, ◌&&◌, ℤ, ◌-ℤ◌, nat_abs, nat_le, int_lt, Bool, List, [], ◌∷◌, ◌++◌, map, Option, Some, None}
 use Rattle.dp_domain.specs.Ranges.{is_narrow_range, clamped}
 
+-- the numbers of a choice: how many cells a vector has and the range of their numbers, the range of the scores, and the
+-- two numbers of the ratio low / high of the weights of a score and of the next
+pub record ChoiceNumbers : Type 0 where
+  pub len : ℕ
+  pub least : ℤ
+  pub most : ℤ
+  pub floor : ℤ
+  pub top : ℤ
+  pub low : ℕ
+  pub high : ℕ
+
 -- the first weight at the score 0, and with each step of the score the weight times high / low, rounded down
 unfoldable pub weight : ℕ → ℕ → ℕ → ℕ → ℕ
 weight first low high zero = first
 weight first low high (suc score) = weight first low high score * high / low
 
 -- how far a number is above the floor, after it is brought into the range from the floor to the top
-abbrev pub score : ℤ → ℤ → ℤ → ℕ
-score floor top z = nat_abs (clamped floor top z -ℤ floor)
+abbrev pub score : ChoiceNumbers → ℤ → ℕ
+score c z = nat_abs (clamped c.floor c.top z -ℤ c.floor)
 
 -- the weight of each cell's score
-unfoldable pub weights : ℕ → ℕ → ℕ → ℤ → ℤ → List ℤ → List ℕ
-weights first low high floor top cells = map (λ z. weight first low high (score floor top z)) cells
+unfoldable pub weights : ℕ → ChoiceNumbers → List ℤ → List ℕ
+weights first c cells = map (λ z. weight first c.low c.high (score c z)) cells
+
+-- the weight of the greatest score
+abbrev pub greatest : ℕ → ChoiceNumbers → ℕ
+greatest first c = weight first c.low c.high (nat_abs (c.top -ℤ c.floor))
 
 -- the weight of the score 0
 abbrev pub first_weight : ℕ

@@ -1,9 +1,11 @@
-ghost use Rattle.std.specs.Prelude.{◌≡◌, ◌≤◌, ◌<◌, ◌*◌, ◌/◌, ◌^◌, ◌≤ℤ◌, ◌-ℤ◌, pos, neg_ℤ, nat_abs, [], ◌∷◌, length, if◌then◌else◌, nat_le, slice_index};
+ghost use Rattle.std.specs.Prelude.{◌≡◌, ◌≤◌, ◌<◌, ◌*◌, ◌/◌, ◌≤ℤ◌, ◌-ℤ◌, pos, neg_ℤ, nat_abs, [], ◌∷◌, length, if◌then◌else◌, nat_le, slice_index};
 ghost use Rattle.std.specs.Option.{option_map};
 ghost use Rattle.std.specs.Result.{result_ok};
 ghost use Rattle.std.specs.List.{sum};
 ghost use Rattle.dp_count.specs.Faults.{HasCause};
 ghost use Rattle.dp_draws.specs.Taking.{take_draws};
+ghost use Rattle.dp_num.specs.Limits.{ArePowers};
+ghost use Rattle.dp_num.specs.Fractions.{fraction_of};
 ghost use Rattle.dp_domain.specs.Domains.{number_limit, Fits, Has};
 ghost use Rattle.dp_domain.specs.Ranges.{clamped};
 ghost use Rattle.dp_domain.proofs.Limits.{Fits-prop};
@@ -47,20 +49,27 @@ pub struct Choice {
     high: u64,
     table: Vec<u64>,
     ghost input_fits: { Fits (domain.IntVec len lo hi) } by { Fits-prop (domain.IntVec len lo hi) },
-    ghost low_is: { low ≡ ratio.p ^ u },
-    ghost high_is: { high ≡ ratio.q ^ u },
-    ghost positive: { 1 ≤ low },
-    ghost below_one: { low < high },
+    ghost powers: { ArePowers ratio.p ratio.q u (low, high) },
     ghost least: { neg_ℤ (pos number_limit) ≤ℤ floor },
     ghost ordered: { floor ≤ℤ top },
     ghost greatest: { top ≤ℤ pos number_limit },
     ghost narrow: { (top -ℤ floor) ≤ℤ pos 65535 },
     ghost table_is: { table.items ≡ weight_table first_weight low high (nat_abs (top -ℤ floor)) },
     ghost sum_fits: { len * weight first_weight low high (nat_abs (top -ℤ floor)) ≤ all_draws },
-    ghost room: { HasRoom all_draws first_weight len ratio.p ratio.q floor top low high },
+    ghost room: { HasRoom all_draws first_weight (fraction_of ratio) (record {
+      len = len;
+      least = lo;
+      most = hi;
+      floor = floor;
+      top = top;
+      low = low;
+      high = high;
+    }) },
 }
 
 impl Choice {
+    ghost use Rattle.dp_choice.specs.Parts.{numbers_of};
+
     /// Weighted choice with `u` units and scores from `floor` to `top` on the domain. `Kind` comes exactly where the
     /// domain is not `IntVec`, `Metric` exactly where it is and the metric is not `L1`, and `Bound` exactly where
     /// neither comes and the powers p^u and q^u are refused, not -2^61 ≤ floor < top ≤ 2^61, top - floor is greater
@@ -78,7 +87,7 @@ impl Choice {
     ) -> Result<Choice, MakeFault>
         requires { Fits domain }
         ensures { MakesOr ⟦<Choice as Measurement>⟧.mechanism result
-            (choice_from ratio.p ratio.q u floor top domain metric) }
+            (choice_from (fraction_of ratio) u floor top domain metric) }
     {
         let Domain::IntVec { len, lo, hi } = domain else {
             return Err(MakeFault::Kind);
@@ -124,15 +133,14 @@ impl Choice {
 
     /// The weight of a cell's score.
     fn weight(&self, cell: i64) -> u64
-        ensures value { result
-            ≡ weight first_weight self.now.low self.now.high (score self.now.floor self.now.top cell) }
+        ensures value { result ≡ weight first_weight self.now.low self.now.high (score (numbers_of self.now) cell) }
     {
         entry(&self.table, self.score(cell))
     }
 
     /// How far a number is above `floor`, after it is brought into the range of the scores.
     fn score(&self, cell: i64) -> u64
-        ensures value { result ≡ score self.now.floor self.now.top cell }
+        ensures value { result ≡ score (numbers_of self.now) cell }
         ensures few { result ≤ nat_abs (self.now.top -ℤ self.now.floor) }
     {
         self.above(self.nearest(cell))
@@ -160,8 +168,7 @@ impl Choice {
     /// The sum of the weights of the cells' scores.
     fn total(&self, cells: &[i64]) -> u64
         requires { length cells.now ≡ self.now.len }
-        ensures value { result
-            ≡ sum (weights first_weight self.now.low self.now.high self.now.floor self.now.top cells.now) }
+        ensures value { result ≡ sum (weights first_weight (numbers_of self.now) cells.now) }
         ensures few { result ≤ all_draws }
         ensures positive { 1 ≤ result }
     {
@@ -175,12 +182,10 @@ impl Choice {
     /// The last place before which the weights' share of all draws is at most the draw.
     fn place(&self, cells: &[i64], total: u64, draw: u64) -> u32
         requires len { length cells.now ≡ self.now.len }
-        requires total { total
-            ≡ sum (weights first_weight self.now.low self.now.high self.now.floor self.now.top cells.now) }
+        requires total { total ≡ sum (weights first_weight (numbers_of self.now) cells.now) }
         requires few { total ≤ all_draws }
         requires positive { 1 ≤ total }
-        ensures { result ≡ chosen all_draws
-            (weights first_weight self.now.low self.now.high self.now.floor self.now.top cells.now) draw }
+        ensures { result ≡ chosen all_draws (weights first_weight (numbers_of self.now) cells.now) draw }
     {
         let mut chosen = 0;
         let mut before = 0;
@@ -222,8 +227,9 @@ fn reaches(before: u64, total: u64, draw: u64) -> bool
 impl Measurement for Choice {
     ghost use Rattle.dp_choice.specs.Choice.{choice};
     ghost use Rattle.dp_choice.specs.ChoiceProof.{choice_law};
+    ghost use Rattle.dp_choice.specs.Parts.{numbers_of};
 
-    ghost mechanism = { λ c. choice c.len c.lo c.hi c.ratio.p c.ratio.q c.u c.floor c.top c.low c.high };
+    ghost mechanism = { λ c. choice (fraction_of c.ratio) c.u (numbers_of c) };
 
     fn in_domain(&self) -> Domain {
         Domain::IntVec {
@@ -285,9 +291,8 @@ impl Measurement for Choice {
         Ok(Answer::from_vec(answer))
     }
 
-    ghost law = { λ c. choice_law c.len c.lo c.hi c.ratio.p c.ratio.q c.u c.floor c.top c.low c.high
-        c.input_fits (c.ratio.positive, c.ratio.below_one, c.ratio.small) c.positive c.below_one
-        c.low_is c.high_is c.ordered c.room };
+    ghost law = { λ c. choice_law (fraction_of c.ratio) c.u (numbers_of c) c.input_fits
+        (c.ratio.positive, c.ratio.below_one, c.ratio.small) c.powers c.ordered c.room };
 }
 
 #[cfg(test)]

@@ -1,5 +1,6 @@
-ghost use Rattle.std.specs.Prelude.{◌≡◌, ◌≤◌, ◌<◌, ◌*◌, ◌/◌, ◌-ℤ◌, nat_abs, length, if◌then◌else◌, nat_le, Some, None, IfOk, IsTrue};
+ghost use Rattle.std.specs.Prelude.{◌≡◌, ◌≤◌, ◌<◌, ◌*◌, ◌/◌, ℤ, ◌-ℤ◌, nat_abs, length, if◌then◌else◌, nat_le, Some, None, IfOk, IsTrue};
 ghost use Rattle.std.specs.Option.{option_map};
+ghost use Rattle.dp_num.specs.Fractions.{fraction_of};
 ghost use Rattle.dp_choice.specs.Weights.{weight, first_weight, all_draws, weight_table, IsGreatest, is_score_range, weights_fit};
 ghost use Rattle.dp_choice.specs.Choice.{IsFittingTable};
 
@@ -15,7 +16,7 @@ pub(crate) const ALL_DRAWS: u64 = 1 << 62;
 const FIRST_WEIGHT: u64 = 65_536;
 
 /// The weights of the scores from 0 to top - floor, or none where these bounds are refused or the weights don't fit.
-/// No table is allocated before it is known that they fit.
+/// No table is allocated before it is known that they fit. The range of the cells' numbers plays no part.
 pub(crate) fn fitting_table(
     alloc: Global,
     len: u32,
@@ -28,8 +29,15 @@ pub(crate) fn fitting_table(
     requires some { 1 ≤ len }
     requires positive { 1 ≤ low }
     requires order { low ≤ high }
-    ensures { IfOk result (λ table.
-        IsFittingTable len ratio.now.p ratio.now.q floor.now top.now low high (option_map (λ t. t.items) table)) }
+    ensures { IfOk result (λ table. (least most : ℤ) → IsFittingTable (fraction_of ratio.now) (record {
+      len = len;
+      least = least;
+      most = most;
+      floor = floor.now;
+      top = top.now;
+      low = low;
+      high = high;
+    }) (option_map (λ t. t.items) table)) }
 {
     if !is_score_range(floor, top) {
         return Ok(None);

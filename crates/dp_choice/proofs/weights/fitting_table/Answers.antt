@@ -7,13 +7,13 @@ pub weights_fit-requires-clause-few : goal.weights_fit-requires-clause-few
 weights_fit-requires-clause-few c = c.in-Some.ensures.1
 
 pub returns-then-not-weights_fit : goal.returns-then-not-weights_fit
-returns-then-not-weights_fit c =
+returns-then-not-weights_fit c least most =
     let is : c.weights_fit.result ≡ false = cc in
     let fits = rw (c.in-Some.ensures.0, c.width-most.ensures.value, c.p.ensures, c.q.ensures) at (sym c.weights_fit.ensures ∙ is) in
     rw fits (and-false (is_score_range c.args.floor.now c.args.top.now))
 
 pub returns : goal.returns
-returns c =
+returns c least most =
     let is : c.weights_fit.result ≡ true = cc in
     let range : c.is_score_range.result ≡ true = cc in
     let fits = rw (c.in-Some.ensures.0, c.width-most.ensures.value, c.p.ensures, c.q.ensures) at (sym c.weights_fit.ensures ∙ is) in

@@ -1,31 +1,26 @@
-use Rattle.std.proofs.Common.{sym, arith, w64, to_z, of_z}
-use Rattle.dp_num.proofs.Powers.{powers-some, powers-below_one}
+use Rattle.std.proofs.Common.{rules, w64, to_z, of_z}
+use Rattle.dp_num.specs.Fractions.{fraction_of}
+use Rattle.dp_choice.specs.Weights.{ChoiceNumbers}
 use Rattle.dp_choice.proofs.Conditions.{is-choice, fits-words}
 use Rattle.dp_choice.proofs.choice.Choice.new.Goals as goal
-
-pub fitting_table-requires-clause-positive : goal.fitting_table-requires-clause-positive
-fitting_table-requires-clause-positive c =
-    let r = c.args.ratio in
-    (powers-below_one r.p r.q c.args.u c.in-Ok.low c.in-Ok.high r.positive r.below_one (sym c.in-Ok.ensures)).0
-
-pub fitting_table-requires-clause-order : goal.fitting_table-requires-clause-order
-fitting_table-requires-clause-order c =
-    let r = c.args.ratio in
-    omega (arith, (powers-below_one r.p r.q c.args.u c.in-Ok.low c.in-Ok.high r.positive r.below_one (sym c.in-Ok.ensures)).1)
 
 pub invariant_of-result : goal.invariant_of-result
 invariant_of-result c =
     let r = c.args.ratio in
-    let made = powers-some r.p r.q c.args.u c.in-Ok.low c.in-Ok.high (sym c.in-Ok.ensures) in
-    let below = powers-below_one r.p r.q c.args.u c.in-Ok.low c.in-Ok.high r.positive r.below_one (sym c.in-Ok.ensures) in
-    let given = rw c.in-Some.is at c.in_ok-table.ensures in
-    let facts = is-choice c.in-IntVec.len r.p r.q (to_z w64 (of_z w64 c.args.floor)) (to_z w64 (of_z w64 c.args.top)) c.in-Ok.low c.in-Ok.high r.below_one given.1 in
+    let n : ChoiceNumbers = record {
+      len = c.in-IntVec.len;
+      least = c.in-IntVec.lo;
+      most = c.in-IntVec.hi;
+      floor = to_z w64 (of_z w64 c.args.floor);
+      top = to_z w64 (of_z w64 c.args.top);
+      low = c.in-Ok.low;
+      high = c.in-Ok.high;
+    } in
+    let given = rw c.in-Some.is at c.in_ok-table.ensures n.least n.most in
+    let facts = is-choice (fraction_of r) n r.below_one given.1 in
     record {
-      input_fits = fits-words c.in-IntVec.len c.in-IntVec.lo c.in-IntVec.hi (rw c.in-IntVec.is at c.requires);
-      low_is = made.1;
-      high_is = made.2;
-      positive = below.0;
-      below_one = below.1;
+      input_fits = fits-words n.len n.least n.most (rw c.in-IntVec.is at c.requires);
+      powers = c.in-Ok.ensures.facts;
       least = facts.0.least;
       ordered = facts.0.ordered;
       greatest = facts.0.greatest;
@@ -34,3 +29,13 @@ invariant_of-result c =
       sum_fits = facts.1;
       room = facts.2;
     }
+
+pub returns-in_default-2 : goal.returns-in_default-2
+returns-in_default-2 c =
+    let given = rw c.in_default-2.is at c.in_ok-table.ensures c.in-IntVec.lo c.in-IntVec.hi in
+    search (rules, given)
+
+pub returns : goal.returns
+returns c =
+    let given = rw c.in-Some.is at c.in_ok-table.ensures (to_z w64 (of_z w64 c.in-IntVec.lo)) (to_z w64 (of_z w64 c.in-IntVec.hi)) in
+    search (rules, given.1)

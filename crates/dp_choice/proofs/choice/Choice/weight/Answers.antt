@@ -2,6 +2,7 @@ use Rattle.std.proofs.Common.{List, ℕ, length, ap, ◌∙◌, arith, w64}
 use Rattle.std.proofs.lemmas.Int.{to_z-of_z}
 use Rattle.std.specs.Prelude.{nat_abs, ◌-ℤ◌, slice_index}
 use Rattle.dp_choice.specs.Weights.{weight, score, first_weight}
+use Rattle.dp_choice.specs.Parts.{numbers_of}
 use Rattle.dp_choice.proofs.Tables.{table-length, table-at}
 use Rattle.dp_choice.proofs.choice.Choice.weight.Goals as goal
 
@@ -17,5 +18,5 @@ returns c =
     record {
       value = c.entry.ensures ∙ ap (λ (t : List ℕ). slice_index t c.score.result) (c.deref.ensures.value ∙ s.table_is)
           ∙ table-at first_weight s.low s.high (nat_abs (s.top -ℤ s.floor)) c.score.result c.score.ensures.few
-          ∙ ap (weight first_weight s.low s.high) (c.score.ensures.value ∙ ap (score s.floor s.top) (to_z-of_z w64 c.args.cell c.ranges.cell));
+          ∙ ap (weight first_weight s.low s.high) (c.score.ensures.value ∙ ap (score (numbers_of s)) (to_z-of_z w64 c.args.cell c.ranges.cell));
     }
