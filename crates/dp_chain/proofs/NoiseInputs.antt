@@ -16,8 +16,11 @@ use Rattle.dp_domain.proofs.NarrowRanges.{narrow-range}
 use Rattle.dp_geometric.specs.Geometric.{geometric}
 use Rattle.dp_geometric.specs.OneCell.{CellNumbers, width}
 use Rattle.dp_geometric.specs.GeometricProof.{length-cell, length-cells, narrow-width}
+use Rattle.dp_response.specs.Response.{ReplyNumbers, response}
+use Rattle.dp_choice.specs.Weights.{ChoiceNumbers}
+use Rattle.dp_choice.specs.Choice.{choice}
 use Rattle.dp_chain.specs.Releases.{IsLike}
-use Rattle.dp_chain.proofs.NoiseMaking.{where-made}
+use Rattle.dp_chain.proofs.NoiseMaking.{cell_with, replies_with, choice_with, geometric-made, response-made, choice-made}
 use Rattle.dp_chain.specs.Stages.{noise_on}
 use Rattle.dp_chain.specs.declared.noise.Noise.{Noise}
 use Rattle.dp_chain.specs.declared.noise.Noise.TheVariants as noise
@@ -54,24 +57,30 @@ vector-likes ratio u len least most c short good = record {
   few_pieces = omega arith;
 }
 
+response-likes : (ratio : Fraction) (u : ℕ) (c : ReplyNumbers) → IsLike ratio (domain.Cat c.n) metrics.Discrete (response ratio u c)
+response-likes ratio u c = record { input_domain = refl; input_metric = refl; one_ratio = refl; few_draws = omega arith; few_pieces = omega arith }
+
+choice-likes : (ratio : Fraction) (u : ℕ) (c : ChoiceNumbers) → IsLike ratio (domain.IntVec c.len c.least c.most) metrics.L1 (choice ratio u c)
+choice-likes ratio u c = record { input_domain = refl; input_metric = refl; one_ratio = refl; few_draws = omega arith; few_pieces = omega arith }
+
 pub noise-likes : (ratio : Fraction) (n : Noise) (d : Domain) (m : Metric) → Fits d → Likes (noise_on ratio n d m) ratio d m
 unfolding noise_on
 noise-likes ratio (noise.Geometric u lo hi) (domain.Int least most) metrics.Absolute fits =
-    where-made (λ r. Likes r ratio (domain.Int least most) metrics.Absolute) _ _ _ tt
-    (λ both made good. number-likes ratio u least most record { lo = lo; hi = hi; low = both.0; high = both.1 } good)
+    geometric-made (λ r. Likes r ratio (domain.Int least most) metrics.Absolute) ratio u tt (domain.Int least most) lo hi
+    (λ both made good. number-likes ratio u least most (cell_with lo hi both) good)
 noise-likes ratio (noise.Geometric u lo hi) (domain.Int least most) m fits = tt
 noise-likes ratio (noise.Geometric u lo hi) (domain.IntVec len least most) metrics.L1 fits =
-    where-made (λ r. Likes r ratio (domain.IntVec len least most) metrics.L1) _ _ _ tt
-    (λ both made good. vector-likes ratio u len least most record { lo = lo; hi = hi; low = both.0; high = both.1 } fits.0.1 good)
+    geometric-made (λ r. Likes r ratio (domain.IntVec len least most) metrics.L1) ratio u tt (domain.IntVec len least most) lo hi
+    (λ both made good. vector-likes ratio u len least most (cell_with lo hi both) fits.0.1 good)
 noise-likes ratio (noise.Geometric u lo hi) (domain.IntVec len least most) m fits = tt
 noise-likes ratio (noise.Geometric u lo hi) d m fits = tt
 noise-likes ratio (noise.Response u) (domain.Cat n) metrics.Discrete fits =
-    where-made (λ r. Likes r ratio (domain.Cat n) metrics.Discrete) _ _ _ tt
-    (λ both made good. record { input_domain = refl; input_metric = refl; one_ratio = refl; few_draws = omega arith; few_pieces = omega arith })
+    response-made (λ r. Likes r ratio (domain.Cat n) metrics.Discrete) ratio u tt n
+    (λ both made good. response-likes ratio u (replies_with n both))
 noise-likes ratio (noise.Response u) (domain.Cat n) m fits = tt
 noise-likes ratio (noise.Response u) d m fits = tt
 noise-likes ratio (noise.Choice u floor top) (domain.IntVec len least most) metrics.L1 fits =
-    where-made (λ r. Likes r ratio (domain.IntVec len least most) metrics.L1) _ _ _ tt
-    (λ both made good. record { input_domain = refl; input_metric = refl; one_ratio = refl; few_draws = omega arith; few_pieces = omega arith })
+    choice-made (λ r. Likes r ratio (domain.IntVec len least most) metrics.L1) ratio u tt len least most floor top
+    (λ both made good. choice-likes ratio u (choice_with len least most floor top both))
 noise-likes ratio (noise.Choice u floor top) (domain.IntVec len least most) m fits = tt
 noise-likes ratio (noise.Choice u floor top) d m fits = tt

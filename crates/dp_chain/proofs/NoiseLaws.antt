@@ -16,17 +16,15 @@ use Rattle.dp_law.specs.Making.{with_powers}
 use Rattle.dp_law.specs.Mechanism.{Mechanism, IsPrivate, IsBelowOne}
 use Rattle.dp_geometric.specs.Geometric.{geometric_if, is_numeric}
 use Rattle.dp_geometric.specs.GeometricProof.{geometric_law}
-use Rattle.dp_response.specs.Response.{response_if}
+use Rattle.dp_response.specs.Response.{draw_bound}
 use Rattle.dp_response.specs.ResponseProof.{response_law}
-use Rattle.dp_choice.specs.Choice.{choice_if}
-use Rattle.dp_choice.specs.Weights.{ChoiceNumbers}
 use Rattle.dp_choice.specs.ChoiceProof.{choice_law}
 use Rattle.dp_choice.proofs.Conditions.{is-choice}
 use Rattle.dp_chain.specs.Laws.{NoiseLaw}
 use Rattle.dp_chain.specs.Stages.{noise_on}
 use Rattle.dp_chain.specs.declared.noise.Noise.{Noise}
 use Rattle.dp_chain.specs.declared.noise.Noise.TheVariants as noise
-use Rattle.dp_chain.proofs.NoiseMaking.{where-made}
+use Rattle.dp_chain.proofs.NoiseMaking.{cell_with, replies_with, choice_with, geometric-made, response-made, choice-made}
 use Rattle.dp_chain.proofs.ReleaseMaking.{noise-takes}
 use Rattle.dp_chain.proofs.ZeroLoss.{LossZero, noise-zero}
 
@@ -41,44 +39,32 @@ below-one p q told = (grind (arith, nat_tests), grind (arith, nat_tests), grind 
 bound-holds : (bound limit : ℕ) → nat_le bound limit ≡ true → bound ≤ limit
 bound-holds bound limit told = grind (arith, nat_tests)
 
--- the three noises, with the powers that are made
-module _ (ratio : Fraction) (u : ℕ) (below : IsBelowOne ratio.p ratio.q) where
-  geometric-private : (input : Domain) (lo hi : ℤ) → Fits input → is_numeric input ≡ true →
-      PrivateIfMade (with_powers (powers ratio.p ratio.q u) (λ both. geometric_if input ratio u record { lo = lo; hi = hi; low = both.0; high = both.1 }))
-  geometric-private input lo hi fits numeric = where-made PrivateIfMade (powers ratio.p ratio.q u) _ _ tt (λ both made good.
-      let range = narrow-range lo hi good in
-      geometric_law input ratio u record { lo = lo; hi = hi; low = both.0; high = both.1 } fits numeric below
-      (are-powers ratio.p ratio.q u both below.0 below.1 made) range.ordered range.narrow)
-
-  response-private : (n : ℕ) → Fits (domain.Cat n) →
-      PrivateIfMade (with_powers (powers ratio.p ratio.q u) (λ both. response_if ratio u record { n = n; low = both.0; high = both.1 }))
-  response-private n fits = where-made PrivateIfMade (powers ratio.p ratio.q u) _ _ tt (λ both made good.
-      response_law ratio u record { n = n; low = both.0; high = both.1 } fits below
-      (are-powers ratio.p ratio.q u both below.0 below.1 made) (bound-holds _ _ good))
-
-  choice-private : (len : ℕ) (least most floor top : ℤ) → Fits (domain.IntVec len least most) →
-      PrivateIfMade (with_powers (powers ratio.p ratio.q u)
-      (λ both. choice_if ratio u record { len = len; least = least; most = most; floor = floor; top = top; low = both.0; high = both.1 }))
-  choice-private len least most floor top fits = where-made PrivateIfMade (powers ratio.p ratio.q u) _ _ tt (λ both made good.
-      let c : ChoiceNumbers = record { len = len; least = least; most = most; floor = floor; top = top; low = both.0; high = both.1 } in
-      let told = is-choice ratio c below.1 good in
-      choice_law ratio u c fits below (are-powers ratio.p ratio.q u both below.0 below.1 made) told.0.ordered told.2)
+cells-private : (ratio : Fraction) (u : ℕ) → IsBelowOne ratio.p ratio.q → (input : Domain) (lo hi : ℤ) → Fits input → is_numeric input ≡ true →
+    PrivateIfMade (with_powers (powers ratio.p ratio.q u) (λ both. geometric_if input ratio u (cell_with lo hi both)))
+cells-private ratio u below input lo hi fits numeric = geometric-made PrivateIfMade ratio u tt input lo hi (λ both made good.
+    let range = narrow-range lo hi good in
+    geometric_law input ratio u (cell_with lo hi both) fits numeric below (are-powers ratio.p ratio.q u both below.0 below.1 made) range.ordered range.narrow)
 
 pub noise-private : (ratio : Fraction) (n : Noise) (d : Domain) (m : Metric) → Fits d → IsBelowOne ratio.p ratio.q →
     PrivateIfMade (noise_on ratio n d m)
 unfolding noise_on
 noise-private ratio (noise.Geometric u lo hi) (domain.Int least most) metrics.Absolute fits below =
-    geometric-private ratio u below (domain.Int least most) lo hi fits refl
+    cells-private ratio u below (domain.Int least most) lo hi fits refl
 noise-private ratio (noise.Geometric u lo hi) (domain.Int least most) m fits below = tt
 noise-private ratio (noise.Geometric u lo hi) (domain.IntVec len least most) metrics.L1 fits below =
-    geometric-private ratio u below (domain.IntVec len least most) lo hi fits refl
+    cells-private ratio u below (domain.IntVec len least most) lo hi fits refl
 noise-private ratio (noise.Geometric u lo hi) (domain.IntVec len least most) m fits below = tt
 noise-private ratio (noise.Geometric u lo hi) d m fits below = tt
-noise-private ratio (noise.Response u) (domain.Cat n) metrics.Discrete fits below = response-private ratio u below n fits
+noise-private ratio (noise.Response u) (domain.Cat n) metrics.Discrete fits below =
+    response-made PrivateIfMade ratio u tt n (λ both made good.
+    response_law ratio u (replies_with n both) fits below (are-powers ratio.p ratio.q u both below.0 below.1 made) (bound-holds (draw_bound (replies_with n both)) (2 ^ 62) good))
 noise-private ratio (noise.Response u) (domain.Cat n) m fits below = tt
 noise-private ratio (noise.Response u) d m fits below = tt
 noise-private ratio (noise.Choice u floor top) (domain.IntVec len least most) metrics.L1 fits below =
-    choice-private ratio u below len least most floor top fits
+    choice-made PrivateIfMade ratio u tt len least most floor top (λ both made good.
+    let c = choice_with len least most floor top both in
+    let told = is-choice ratio c below.1 good in
+    choice_law ratio u c fits below (are-powers ratio.p ratio.q u both below.0 below.1 made) told.0.ordered told.2)
 noise-private ratio (noise.Choice u floor top) (domain.IntVec len least most) m fits below = tt
 noise-private ratio (noise.Choice u floor top) d m fits below = tt
 

@@ -19,7 +19,7 @@ use Rattle.dp_chain.specs.Stages.{noise_on}
 use Rattle.dp_chain.specs.declared.noise.Noise.{Noise}
 use Rattle.dp_chain.specs.declared.noise.Noise.TheVariants as noise
 use Rattle.dp_chain.specs.declared.noise.Part.{Part}
-use Rattle.dp_chain.proofs.NoiseMaking.{where-made}
+use Rattle.dp_chain.proofs.NoiseMaking.{geometric-made, response-made, choice-made}
 use Rattle.dp_chain.proofs.ReleaseMaking.{noise_after, part-more, parts-more, parts-none, parts-zero}
 use Rattle.dp_chain.proofs.ReleaseSteps.{pieces-cons, pieces-nil}
 
@@ -29,15 +29,18 @@ HasOnePiece made = IfOk made (λ m. m.pieces ≡ 1)
 
 noise-one : (ratio : Fraction) (n : Noise) (d : Domain) (m : Metric) → HasOnePiece (noise_on ratio n d m)
 unfolding noise_on
-noise-one ratio (noise.Geometric u lo hi) (domain.Int least most) metrics.Absolute = where-made HasOnePiece _ _ _ tt (λ both made good. refl)
+noise-one ratio (noise.Geometric u lo hi) (domain.Int least most) metrics.Absolute =
+    geometric-made HasOnePiece ratio u tt (domain.Int least most) lo hi (λ both made good. refl)
 noise-one ratio (noise.Geometric u lo hi) (domain.Int least most) m = tt
-noise-one ratio (noise.Geometric u lo hi) (domain.IntVec len least most) metrics.L1 = where-made HasOnePiece _ _ _ tt (λ both made good. refl)
+noise-one ratio (noise.Geometric u lo hi) (domain.IntVec len least most) metrics.L1 =
+    geometric-made HasOnePiece ratio u tt (domain.IntVec len least most) lo hi (λ both made good. refl)
 noise-one ratio (noise.Geometric u lo hi) (domain.IntVec len least most) m = tt
 noise-one ratio (noise.Geometric u lo hi) d m = tt
-noise-one ratio (noise.Response u) (domain.Cat n) metrics.Discrete = where-made HasOnePiece _ _ _ tt (λ both made good. refl)
+noise-one ratio (noise.Response u) (domain.Cat n) metrics.Discrete = response-made HasOnePiece ratio u tt n (λ both made good. refl)
 noise-one ratio (noise.Response u) (domain.Cat n) m = tt
 noise-one ratio (noise.Response u) d m = tt
-noise-one ratio (noise.Choice u floor top) (domain.IntVec len least most) metrics.L1 = where-made HasOnePiece _ _ _ tt (λ both made good. refl)
+noise-one ratio (noise.Choice u floor top) (domain.IntVec len least most) metrics.L1 =
+    choice-made HasOnePiece ratio u tt len least most floor top (λ both made good. refl)
 noise-one ratio (noise.Choice u floor top) (domain.IntVec len least most) m = tt
 noise-one ratio (noise.Choice u floor top) d m = tt
 

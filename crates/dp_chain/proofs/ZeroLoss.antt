@@ -21,7 +21,7 @@ use Rattle.dp_chain.specs.declared.noise.Noise.{Noise}
 use Rattle.dp_chain.specs.declared.noise.Noise.TheVariants as noise
 use Rattle.dp_chain.specs.Lines.{stages_on, line_map}
 use Rattle.dp_chain.proofs.LineSteps.{line_map-nil, line_map-cons}
-use Rattle.dp_chain.proofs.NoiseMaking.{where-made}
+use Rattle.dp_chain.proofs.NoiseMaking.{geometric-made, response-made, choice-made}
 use Rattle.dp_chain.proofs.Making.{first_and, stages-more, stages-none}
 use Rattle.dp_chain.specs.Stages.{stage_on, noise_on}
 use Rattle.dp_chain.specs.declared.stage.Stage.{Stage}
@@ -38,6 +38,9 @@ tested-zero false good made zero_is = tt
 
 capped-zero : (n : ℕ) → n ≡ 0 → capped n ≡ Some 0
 capped-zero n same = ap capped same
+
+times-zero : (u : ℕ) → u * 0 ≡ 0
+times-zero u = omega arith
 
 ceil-zero : (g : ℕ) → div_ceil 0 g ≡ 0
 ceil-zero g = rw (zero-div, zero-mod) refl
@@ -102,14 +105,18 @@ LossZero (Err refusal) = Unit {0}
 
 pub noise-zero : (ratio : Fraction) (n : Noise) (d : Domain) (m : Metric) → LossZero (noise_on ratio n d m)
 unfolding noise_on
-noise-zero ratio (noise.Geometric u lo hi) (domain.Int least most) metrics.Absolute = where-made LossZero _ _ _ tt (λ both made good. capped-zero (u * 0) (omega arith))
+noise-zero ratio (noise.Geometric u lo hi) (domain.Int least most) metrics.Absolute =
+    geometric-made LossZero ratio u tt (domain.Int least most) lo hi (λ both made good. capped-zero (u * 0) (times-zero u))
 noise-zero ratio (noise.Geometric u lo hi) (domain.Int least most) m = tt
-noise-zero ratio (noise.Geometric u lo hi) (domain.IntVec len least most) metrics.L1 = where-made LossZero _ _ _ tt (λ both made good. capped-zero (u * 0) (omega arith))
+noise-zero ratio (noise.Geometric u lo hi) (domain.IntVec len least most) metrics.L1 =
+    geometric-made LossZero ratio u tt (domain.IntVec len least most) lo hi (λ both made good. capped-zero (u * 0) (times-zero u))
 noise-zero ratio (noise.Geometric u lo hi) (domain.IntVec len least most) m = tt
 noise-zero ratio (noise.Geometric u lo hi) d m = tt
-noise-zero ratio (noise.Response u) (domain.Cat n) metrics.Discrete = where-made LossZero _ _ _ tt (λ both made good. capped-zero (u * min 0 1) (omega arith))
+noise-zero ratio (noise.Response u) (domain.Cat n) metrics.Discrete =
+    response-made LossZero ratio u tt n (λ both made good. capped-zero (u * min 0 1) (times-zero u))
 noise-zero ratio (noise.Response u) (domain.Cat n) m = tt
 noise-zero ratio (noise.Response u) d m = tt
-noise-zero ratio (noise.Choice u floor top) (domain.IntVec len least most) metrics.L1 = where-made LossZero _ _ _ tt (λ both made good. refl)
+noise-zero ratio (noise.Choice u floor top) (domain.IntVec len least most) metrics.L1 =
+    choice-made LossZero ratio u tt len least most floor top (λ both made good. refl)
 noise-zero ratio (noise.Choice u floor top) (domain.IntVec len least most) m = tt
 noise-zero ratio (noise.Choice u floor top) d m = tt

@@ -6,10 +6,10 @@ use Rattle.dp_domain.specs.declared.metrics.Metric.{Metric}
 use Rattle.dp_domain.specs.declared.metrics.Metric.TheVariants as metrics
 use Rattle.dp_law.specs.declared.refusals.Refused.{Refused}
 use Rattle.dp_law.specs.Mechanism.{Mechanism}
-use Rattle.dp_num.specs.Limits.{Fraction, powers}
+use Rattle.dp_num.specs.Limits.{Fraction}
 use Rattle.dp_geometric.specs.contracts.geometric.GeometricMeasurement.TheImpl.{ghosts as noise_ghosts}
-use Rattle.dp_geometric.specs.Geometric.{geometric_from}
-use Rattle.dp_chain.proofs.NoiseMaking.{where-made}
+use Rattle.dp_geometric.specs.Geometric.{geometric, geometric_from}
+use Rattle.dp_chain.proofs.NoiseMaking.{cell_with, geometric-made}
 use Rattle.dp_session.proofs.tests.library.noisy_hundreds.Goals as goal
 
 -- noise of 5 units loses 5 at the distance 1
@@ -26,7 +26,8 @@ five-once lo hi ratio from metric made is_number is_absolute is_made =
     let there : geometric_from ratio 5 (pos 0) (pos 200) (domain.Int lo hi) metrics.Absolute ≡ Ok made =
     ap (λ (d : Domain). geometric_from ratio 5 (pos 0) (pos 200) d metrics.Absolute) (sym is_number)
     ∙ ap (geometric_from ratio 5 (pos 0) (pos 200) from) (sym is_absolute) ∙ is_made in
-    where-made (FiveIfMade made) (powers ratio.p ratio.q 5) _ _ (λ h. absurd (cc)) (λ both there good h. five-made _ made refl h) there
+    geometric-made (FiveIfMade made) ratio 5 (λ h. absurd (cc)) (domain.Int lo hi) (pos 0) (pos 200)
+    (λ both is_both good h. five-made (geometric (domain.Int lo hi) ratio 5 (cell_with (pos 0) (pos 200) both)) made refl h) there
 
 -- what 1 comes to through a transformation and then a noise
 through : (out one : Option ℕ) (noise : Mechanism) → one ≡ Some 1
