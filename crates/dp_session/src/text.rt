@@ -1,4 +1,4 @@
-ghost use Rattle.std.specs.Prelude.{◌≡◌, ◌++◌, string_bytes, IfOk, codes};
+ghost use Rattle.std.specs.Prelude.{◌≡◌, ◌++◌, ℕ, string_bytes, IfOk, codes};
 ghost use Rattle.std.specs.Fmt as fmt;
 ghost use Rattle.dp_session.specs.QueryLines.{refusal_text, cost_text, numbered, task_text, admitted_text};
 ghost use Rattle.dp_session.specs.Works.{task_of};
