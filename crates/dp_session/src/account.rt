@@ -126,7 +126,13 @@ fn line_text<L: Ledger>(
 {
     let mut steps = Steps::<L>::new(blank);
     match queries.settle(alloc, line, &mut steps) {
-        Ok(work) => admitted_line(alloc, queries.answered(), &work, queries.spent()),
+        Ok(work) => admitted_line(
+            alloc,
+            queries.answered(),
+            &work.task,
+            work.cost,
+            queries.spent(),
+        ),
         Err(JudgeFault::Refused(refused)) => refused_line(alloc, queries.answered(), &refused),
         Err(JudgeFault::NoMemory) => Err(NoMemory),
     }

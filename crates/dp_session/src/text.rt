@@ -5,7 +5,6 @@ ghost use Rattle.dp_session.specs.Works.{task_of};
 
 use crate::refusal::Refusal;
 use crate::task::Task;
-use crate::work::Work;
 use dp_count::NoMemory;
 use dp_law::Measurement;
 use std::alloc::Global;
@@ -27,20 +26,38 @@ pub(crate) fn accepted_line(
 pub(crate) fn admitted_line(
     alloc: Global,
     number: u32,
-    work: &Work,
+    task: &Task,
+    cost: u64,
     spent: u64,
 ) -> Result<String, NoMemory>
-    ensures { (node : ℕ) → IfOk result (λ line. string_bytes line ≡ numbered number
-        (task_text admitted_text node (task_of work.now.task) ++ cost_text work.now.cost spent)) }
+    ensures { (node : ℕ) → IfOk result (λ line. string_bytes line
+        ≡ numbered number (task_text admitted_text node (task_of task.now) ++ cost_text cost spent)) }
 {
-    let cost = work.cost;
-    Ok(match &work.task {
-        Task::Release(release) => {
-            let draws = release.draws();
-            format!(in alloc; "{number} admitted draws {draws} cost {cost} spent {spent}\n")?
-        }
-        Task::Child(_) => format!(in alloc; "{number} node cost {cost} spent {spent}\n")?,
-    })
+    match task {
+        Task::Release(release) => release_line(alloc, number, release.draws(), cost, spent),
+        Task::Child(_) => child_line(alloc, number, cost, spent),
+    }
+}
+
+/// The line of a release that takes so many draws.
+fn release_line(
+    alloc: Global,
+    number: u32,
+    draws: u64,
+    cost: u64,
+    spent: u64,
+) -> Result<String, NoMemory>
+    ensures { IfOk result (λ line. string_bytes line
+        ≡ numbered number ((codes "admitted draws " ++ fmt.decimal draws) ++ cost_text cost spent)) }
+{
+    Ok(format!(in alloc; "{number} admitted draws {draws} cost {cost} spent {spent}\n")?)
+}
+
+/// The line of an opened child.
+fn child_line(alloc: Global, number: u32, cost: u64, spent: u64) -> Result<String, NoMemory>
+    ensures { IfOk result (λ line. string_bytes line ≡ numbered number (codes "node" ++ cost_text cost spent)) }
+{
+    Ok(format!(in alloc; "{number} node cost {cost} spent {spent}\n")?)
 }
 
 /// The line of a refused query: the number of the refusal, its word, and what it carries.
