@@ -5,6 +5,7 @@ use dp_draws::{Draws, NoDraws, Replay, Zeros};
 use dp_io::MemSink;
 use dp_num::Steps;
 use dp_pipeline::read_pipeline;
+use dp_records::records_of;
 use dp_store::store_of;
 use std::alloc::Global;
 use std::marker::Brand;
@@ -270,6 +271,37 @@ end 3 spent 2
 "
             .as_slice()
     );
+    Ok(())
+}
+
+/// The session of a pipeline's text on the value of the records of a text.
+fn session_of_value(
+    rt: &impl Abort,
+    alloc: Global,
+    pipeline: &[u8],
+    text: &[u8],
+) -> Result<Session, Fail>
+    requires { length text.now ≤ 2 ^ 30 }
+    ensures { IfOk result (λ session. session.queries.answered ≡ 0) }
+{
+    let pipeline = read_pipeline(alloc, pipeline)?;
+    let columns = pipeline.columns().len() as u32;
+    let records = records_of(alloc, text, columns, pipeline.header())?;
+    assert!(rt; pipeline.place().domain().has(&records));
+    Ok(Session::new(alloc, pipeline, records)?)
+}
+
+#[test]
+fn a_session_on_a_value_answers_as_one_on_a_store(rt: HostRuntime) -> Result<(), Fail> {
+    let alloc = rt.alloc();
+    let lines = [WOMEN, AGES, DISTRICT];
+    let of_value = written_of(
+        alloc,
+        session_of_value(&rt, alloc, CENSUS, CENSUS_RECORDS)?,
+        lines,
+    )?;
+    let of_store = written_of(alloc, session_of(alloc, CENSUS, CENSUS_RECORDS)?, lines)?;
+    assert_eq!(rt; of_value.as_slice(), of_store.as_slice());
     Ok(())
 }
 
