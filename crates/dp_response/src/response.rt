@@ -47,7 +47,8 @@ impl Response {
     /// and q^u are refused or q^u + (n - 1)·p^u is greater than 2^62.
     pub fn new(domain: Domain, metric: Metric, ratio: Ratio, u: u64) -> Result<Response, Refused>
         requires { Fits domain }
-        ensures { Makes ⟦<Response as Measurement>⟧.mechanism result (response_from (fraction_of ratio) u domain metric) }
+        ensures { Makes ⟦<Response as Measurement>⟧.mechanism result
+            (response_from (fraction_of ratio) u domain metric) }
     {
         let Domain::Cat { n } = domain else {
             return Err(Refused::Kind);
