@@ -1,7 +1,7 @@
 pub mod ChaChaDraws
 pub mod ChaChaProof
 pub mod Numbers
-pub mod SourceLaws
+pub mod SourceProof
 pub mod Sources
 pub mod Taking
 pub mod Views

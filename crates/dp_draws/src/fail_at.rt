@@ -31,7 +31,7 @@ impl<D: Draws> FailAt<D> {
 impl<D: Draws> Draws for FailAt<D> {
     ghost use Rattle.std.specs.Prelude.{◌∷◌};
     ghost use Rattle.dp_draws.specs.Sources.{fail_at_step};
-    ghost use Rattle.dp_draws.specs.SourceLaws.{fail_at_below};
+    ghost use Rattle.dp_draws.specs.SourceProof.{fail_at_below};
 
     ghost state = { λ source. source.calls ∷ D.state source.inner };
 

@@ -23,7 +23,7 @@ impl NoDraws {
 impl Draws for NoDraws {
     ghost use Rattle.dp_draws.specs.Views.{no_draws_faults};
     ghost use Rattle.dp_draws.specs.Sources.{no_step};
-    ghost use Rattle.dp_draws.specs.SourceLaws.{nothing_below};
+    ghost use Rattle.dp_draws.specs.SourceProof.{nothing_below};
     ghost use Rattle.std.specs.Prelude.{[]};
 
     ghost state = { λ _. [] };

@@ -29,7 +29,7 @@ impl Replay {
 impl Draws for Replay {
     ghost use Rattle.dp_draws.specs.Views.{numbers_left, replay_faults};
     ghost use Rattle.dp_draws.specs.Sources.{replay_step};
-    ghost use Rattle.dp_draws.specs.SourceLaws.{replay_below};
+    ghost use Rattle.dp_draws.specs.SourceProof.{replay_below};
 
     ghost state = { numbers_left };
 

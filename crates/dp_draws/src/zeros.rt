@@ -19,7 +19,7 @@ impl Zeros {
 
 impl Draws for Zeros {
     ghost use Rattle.dp_draws.specs.Sources.{zeros_step};
-    ghost use Rattle.dp_draws.specs.SourceLaws.{zeros_below};
+    ghost use Rattle.dp_draws.specs.SourceProof.{zeros_below};
     ghost use Rattle.std.specs.Prelude.{[]};
     ghost use Rattle.std.proofs.Common.{rules};
 
