@@ -310,16 +310,23 @@ fn the_parts_of_a_plan_are_one_release(rt: HostRuntime) -> Result<(), Fail> {
     Ok(())
 }
 
+/// What a session writes of the six lines and the last one.
+fn told_of(alloc: Global, session: &mut Session) -> Result<Vec<u8>, Fail>
+    requires { session.old.queries.answered ≡ 0 }
+{
+    let mut out = MemSink::new(alloc, 1000, Vec::new(alloc), 1000)?;
+    six_lines(alloc, session, &mut Zeros::new(), &mut out)?;
+    close(session, &mut out)?;
+    refusals_are_free();
+    Ok(Vec::from_slice(alloc, out.held())?)
+}
+
 #[test]
 fn a_session_answers_refuses_and_tells_what_was_spent(rt: HostRuntime) -> Result<(), Fail> {
     let alloc = rt.alloc();
     let mut session = session_over(alloc, TOWN, PEOPLE)?;
-    let mut out = MemSink::new(alloc, 1000, Vec::new(alloc), 1000)?;
-    six_lines(alloc, &mut session, &mut Zeros::new(), &mut out)?;
-    close(&mut session, &mut out)?;
-    refusals_are_free();
     assert_eq!(rt;
-        out.held(),
+        told_of(alloc, &mut session)?.as_slice(),
         b"1 answer (4;3) cost 3 spent 3
 2 node cost 4 spent 7
 3 answer 3 cost 3 spent 7

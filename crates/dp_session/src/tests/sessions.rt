@@ -106,14 +106,26 @@ fn answer_three(
 }
 
 /// What a session writes of three lines and the last one.
-fn written_of(alloc: Global, session: Session, lines: [&[u8]; 3]) -> Result<Vec<u8>, Fail>
-    requires { session.queries.answered ≡ 0 }
+fn written_of(alloc: Global, session: &mut Session, lines: [&[u8]; 3]) -> Result<Vec<u8>, Fail>
+    requires { session.old.queries.answered ≡ 0 }
 {
-    let mut session = session;
     let mut out = output(alloc)?;
-    answer_three(alloc, &mut session, lines, &mut out)?;
+    answer_three(alloc, session, lines, &mut out)?;
     session.end(&mut out)?;
     Ok(Vec::from_slice(alloc, out.held())?)
+}
+
+/// What the session of a pipeline's text on the records of a text writes of three lines and the last one.
+fn written_on(
+    alloc: Global,
+    pipeline: &[u8],
+    text: &[u8],
+    lines: [&[u8]; 3],
+) -> Result<Vec<u8>, Fail>
+    requires { length text.now ≤ 2 ^ 30 }
+{
+    let mut session = session_of(alloc, pipeline, text)?;
+    written_of(alloc, &mut session, lines)
 }
 
 /// A pipeline of three columns with a plan.
@@ -151,9 +163,8 @@ const DISTRICT: &[u8] = br#"{"node":0,"ask":[["select","district"],
 #[test]
 fn a_number_a_vector_and_a_category_are_written(rt: HostRuntime) -> Result<(), Fail> {
     let alloc = rt.alloc();
-    let session = session_of(alloc, CENSUS, CENSUS_RECORDS)?;
     assert_eq!(rt;
-        written_of(alloc, session, [WOMEN, AGES, DISTRICT])?.as_slice(),
+        written_on(alloc, CENSUS, CENSUS_RECORDS, [WOMEN, AGES, DISTRICT])?.as_slice(),
         b"1 answer 7 cost 1 spent 1
 2 answer [2,4,2,3] cost 2 spent 3
 3 answer #0 cost 3 spent 6
@@ -171,9 +182,8 @@ const TWO_PARTS: &[u8] = br#"{"node":0,"ask":["all",[["count"],["geometric",1,0,
 #[test]
 fn parts_are_written_in_parentheses(rt: HostRuntime) -> Result<(), Fail> {
     let alloc = rt.alloc();
-    let session = session_of(alloc, ODOMETER, b"")?;
     assert_eq!(rt;
-        written_of(alloc, session, [TWO_PARTS, b"{", COUNT_NONE])?.as_slice(),
+        written_on(alloc, ODOMETER, b"", [TWO_PARTS, b"{", COUNT_NONE])?.as_slice(),
         b"1 answer (0;0) cost 3 spent 3
 2 refused 1 malformed
 3 answer 0 cost 1 spent 4
@@ -185,16 +195,29 @@ end 3 spent 4
 }
 
 /// That a source of too few draws ends a session, which writes nothing.
+fn ends_without_draws<D: Draws>(
+    rt: &(impl Abort + AllocGlobal),
+    session: &mut Session,
+    draws: &mut D,
+    out: &mut MemSink,
+)
+    requires { session.old.queries.answered ≡ 0 }
+{
+    let alloc = rt.alloc();
+    let first = answer(alloc, session, COUNT, draws, out);
+    assert_eq!(rt; first, Err(SessionFault::DrawFault));
+    let second = answer(alloc, session, OPEN_WOMEN, draws, out);
+    assert_eq!(rt; second, Err(SessionFault::Ended));
+    assert_eq!(rt; session.end(out), Err(EndFault::Ended));
+    assert_eq!(rt; out.held(), b"".as_slice());
+}
+
+/// The same of a session on three records.
 fn runs_out<D: Draws>(rt: &(impl Abort + AllocGlobal), draws: &mut D) -> Result<(), Fail> {
     let alloc = rt.alloc();
-    let mut session = session_of(alloc, ODOMETER, PERSONS)?;
     let mut out = output(alloc)?;
-    let first = answer(alloc, &mut session, COUNT, draws, &mut out);
-    assert_eq!(rt; first, Err(SessionFault::DrawFault));
-    let second = answer(alloc, &mut session, OPEN_WOMEN, draws, &mut out);
-    assert_eq!(rt; second, Err(SessionFault::Ended));
-    assert_eq!(rt; session.end(&mut out), Err(EndFault::Ended));
-    assert_eq!(rt; out.held(), b"".as_slice());
+    let mut session = session_of(alloc, ODOMETER, PERSONS)?;
+    ends_without_draws(rt, &mut session, draws, &mut out);
     Ok(())
 }
 
@@ -224,11 +247,11 @@ const TRUNCATED_TO_ONE: &[u8] = br#"{"node":0,"ask":[["filter","item","y"],["tru
 #[test]
 fn queries_where_a_person_is_the_unit(rt: HostRuntime) -> Result<(), Fail> {
     let alloc = rt.alloc();
-    let session = session_of(alloc, PERSON, ITEMS)?;
     assert_eq!(rt;
-        written_of(
+        written_on(
             alloc,
-            session,
+            PERSON,
+            ITEMS,
             [TWO_OF_EACH, TRUNCATED_TO_NONE, TRUNCATED_TO_ONE]
         )?
         .as_slice(),
@@ -245,9 +268,14 @@ end 3 spent 6
 #[test]
 fn a_child_stays_open_beside_later_queries_where_siblings_do(rt: HostRuntime) -> Result<(), Fail> {
     let alloc = rt.alloc();
-    let session = session_of(alloc, OPEN_SIBLINGS, PERSONS)?;
     assert_eq!(rt;
-        written_of(alloc, session, [OPEN_WOMEN, COUNT_NONE, COUNT_BELOW])?.as_slice(),
+        written_on(
+            alloc,
+            OPEN_SIBLINGS,
+            PERSONS,
+            [OPEN_WOMEN, COUNT_NONE, COUNT_BELOW]
+        )?
+        .as_slice(),
         b"1 node cost 1 spent 1
 2 answer 0 cost 1 spent 2
 3 answer 2 cost 1 spent 2
@@ -261,9 +289,14 @@ end 3 spent 2
 #[test]
 fn a_child_is_frozen_by_a_later_query_where_siblings_are(rt: HostRuntime) -> Result<(), Fail> {
     let alloc = rt.alloc();
-    let session = session_of(alloc, FROZEN_SIBLINGS, PERSONS)?;
     assert_eq!(rt;
-        written_of(alloc, session, [OPEN_WOMEN, COUNT_NONE, COUNT_BELOW])?.as_slice(),
+        written_on(
+            alloc,
+            FROZEN_SIBLINGS,
+            PERSONS,
+            [OPEN_WOMEN, COUNT_NONE, COUNT_BELOW]
+        )?
+        .as_slice(),
         b"1 node cost 1 spent 1
 2 answer 0 cost 1 spent 2
 3 refused 3 frozen 0 2
@@ -295,12 +328,9 @@ fn session_of_value(
 fn a_session_on_a_value_answers_as_one_on_a_store(rt: HostRuntime) -> Result<(), Fail> {
     let alloc = rt.alloc();
     let lines = [WOMEN, AGES, DISTRICT];
-    let of_value = written_of(
-        alloc,
-        session_of_value(&rt, alloc, CENSUS, CENSUS_RECORDS)?,
-        lines,
-    )?;
-    let of_store = written_of(alloc, session_of(alloc, CENSUS, CENSUS_RECORDS)?, lines)?;
+    let mut session = session_of_value(&rt, alloc, CENSUS, CENSUS_RECORDS)?;
+    let of_value = written_of(alloc, &mut session, lines)?;
+    let of_store = written_on(alloc, CENSUS, CENSUS_RECORDS, lines)?;
     assert_eq!(rt; of_value.as_slice(), of_store.as_slice());
     Ok(())
 }
@@ -338,46 +368,60 @@ fn selects(
     Ok(())
 }
 
-#[test]
-fn nodes_select_what_their_lines_leave(rt: HostRuntime) -> Result<(), Fail> {
-    let alloc = rt.alloc();
-    let mut session = session_of(alloc, PERSON, ITEMS)?;
+/// Opens a child of the root, and one below it.
+fn open_two(alloc: Global, session: &mut Session) -> Result<(), Fail>
+    requires { session.old.queries.answered ≡ 0 }
+{
     let mut out = output(alloc)?;
-    answer(
-        alloc,
-        &mut session,
-        OPEN_TRUNCATED,
-        &mut NoDraws::new(),
-        &mut out,
-    )?;
-    answer(
-        alloc,
-        &mut session,
-        OPEN_BELOW,
-        &mut NoDraws::new(),
-        &mut out,
-    )?;
-    selects(&rt, &session, 0, &[0, 1, 2, 3, 4])?;
-    selects(&rt, &session, 1, &[0, 1, 2, 4])?;
-    selects(&rt, &session, 2, &[1, 4])?;
+    let mut draws = NoDraws::new();
+    answer(alloc, session, OPEN_TRUNCATED, &mut draws, &mut out)?;
+    answer(alloc, session, OPEN_BELOW, &mut draws, &mut out)?;
+    Ok(())
+}
+
+/// That the root and both children select what their lines leave, and that there is no further node.
+fn select_what_is_left(rt: &(impl Abort + AllocGlobal), session: &Session) -> Result<(), Fail> {
+    selects(rt, session, 0, &[0, 1, 2, 3, 4])?;
+    selects(rt, session, 1, &[0, 1, 2, 4])?;
+    selects(rt, session, 2, &[1, 4])?;
     assert!(rt; session.selection(3).is_none());
     Ok(())
 }
 
 #[test]
-fn a_write_fault_ends_a_session(rt: HostRuntime) -> Result<(), Fail> {
+fn nodes_select_what_their_lines_leave(rt: HostRuntime) -> Result<(), Fail> {
     let alloc = rt.alloc();
-    let mut session = session_of(alloc, ODOMETER, PERSONS)?;
-    let mut out = MemSink::new(alloc, 1000, vec![in alloc; 2]?, 1000)?;
+    let mut session = session_of(alloc, PERSON, ITEMS)?;
+    open_two(alloc, &mut session)?;
+    select_what_is_left(&rt, &session)
+}
+
+/// That an output which fails at its second call ends a session, which tells no selection then.
+fn ends_at_the_second_line(
+    rt: &(impl Abort + AllocGlobal),
+    session: &mut Session,
+    out: &mut MemSink,
+)
+    requires { session.old.queries.answered ≡ 0 }
+{
+    let alloc = rt.alloc();
     let mut draws = Zeros::new();
-    let first = answer(alloc, &mut session, COUNT, &mut draws, &mut out);
+    let first = answer(alloc, session, COUNT, &mut draws, out);
     assert_eq!(rt; first, Ok(()));
-    let second = answer(alloc, &mut session, COUNT, &mut draws, &mut out);
+    let second = answer(alloc, session, COUNT, &mut draws, out);
     assert_eq!(rt; second, Err(SessionFault::WriteFault));
-    let third = answer(alloc, &mut session, COUNT, &mut draws, &mut out);
+    let third = answer(alloc, session, COUNT, &mut draws, out);
     assert_eq!(rt; third, Err(SessionFault::Ended));
-    assert_eq!(rt; session.end(&mut out), Err(EndFault::Ended));
+    assert_eq!(rt; session.end(out), Err(EndFault::Ended));
     assert!(rt; session.selection(0).is_none());
     assert_eq!(rt; out.held(), b"1 answer 3 cost 1 spent 1\n".as_slice());
+}
+
+#[test]
+fn a_write_fault_ends_a_session(rt: HostRuntime) -> Result<(), Fail> {
+    let alloc = rt.alloc();
+    let mut out = MemSink::new(alloc, 1000, vec![in alloc; 2]?, 1000)?;
+    let mut session = session_of(alloc, ODOMETER, PERSONS)?;
+    ends_at_the_second_line(&rt, &mut session, &mut out);
     Ok(())
 }
