@@ -6,6 +6,20 @@ use Rattle.std.specs.List.{sum}
 abbrev pub KeepsRatio : ℕ → ℕ → ℕ → ℕ → ℕ → Type 0
 KeepsRatio p q k x y = x * p ^ k ≤ q ^ k * y
 
+-- two numbers x and y, and an exponent k
+pub record Pair : Type 0 where
+  pub k : ℕ
+  pub x : ℕ
+  pub y : ℕ
+
+-- x is at most (q/p)^k times y
+abbrev pub Keeps : ℕ → ℕ → Pair → Type 0
+Keeps p q pair = KeepsRatio p q pair.k pair.x pair.y
+
+-- the products of the numbers of two pairs, and the sum of their exponents
+abbrev pub times : Pair → Pair → Pair
+times one other = record { k = one.k + other.k; x = one.x * other.x; y = one.y * other.y }
+
 -- three lists of one length: at each place the two numbers keep the ratio at the exponent there
 unfoldable pub KeepRatios : ℕ → ℕ → List ℕ → List ℕ → List ℕ → Type 0
 KeepRatios p q [] [] [] = Unit {0}
@@ -19,12 +33,12 @@ product (x ∷ xs) = x * product xs
 
 -- pairs that keep a ratio multiply, and their exponents add
 abbrev pub RatioProductLaw : Type 0
-RatioProductLaw =
-    (p q j k x y v w : ℕ) → KeepsRatio p q j x y → KeepsRatio p q k v w → KeepsRatio p q (j + k) (x * v) (y * w)
+RatioProductLaw = (p q : ℕ) (one other : Pair) → Keeps p q one → Keeps p q other → Keeps p q (times one other)
 
 -- a pair that keeps a ratio keeps it at every greater exponent
 abbrev pub RatioGrowthLaw : Type 0
-RatioGrowthLaw = (p q j k x y : ℕ) → p ≤ q → j ≤ k → KeepsRatio p q j x y → KeepsRatio p q k x y
+RatioGrowthLaw =
+    (p q k : ℕ) (pair : Pair) → p ≤ q → pair.k ≤ k → Keeps p q pair → KeepsRatio p q k pair.x pair.y
 
 -- lists of pairs that keep a ratio: their products keep it at the sum of the exponents
 abbrev pub RatioListLaw : Type 0
