@@ -5,6 +5,8 @@ use Rattle.std.proofs.Common.{◌≡◌, ℕ, zero, suc, ◌+◌, ◌-◌, ◌*�
 use Rattle.std.proofs.Math.Nat.{pow-zero, pow-suc, mul-le-mul_left, pow-le-pow_left}
 use Rattle.std.proofs.lemmas.Nat.{pow-add}
 use Rattle.std.proofs.lemmas.Bool.Decides.{nat_tests}
+use Rattle.dp_count.specs.Apart.{apart}
+pub use Rattle.dp_count.specs.Apart.{apart as between}
 use Rattle.dp_count.specs.DrawLists.{sum_below, count, leading_run}
 use Rattle.dp_count.proofs.Counting.{sum_below-same, sum_below-const, sum_below-split, count-same, count-never}
 use Rattle.dp_count.proofs.LeadingRun.{count-replicate, count-exact_run, count-long_run}
@@ -36,10 +38,6 @@ up_to n t k = min (t + (1 + k)) n
 
 abbrev pub down_to : ℕ → ℕ → ℕ
 down_to t k = t - (1 + k)
-
--- how far apart two places are
-abbrev pub between : ℕ → ℕ → ℕ
-between a b = (a - b) + (b - a)
 
 -- the factor of the place b: the ends take more than the places between, and a single place takes all
 abbrev pub factor : ℕ → ℕ → ℕ → ℕ → ℕ
@@ -212,17 +210,17 @@ above n p r t g b e h = elim (order b n) [ Same f ↦ above_last n p r t g b e f
 below : (n p r t g b : ℕ) → t ≡ b + suc g → t ≤ n → places n p r t b ≡ share n p r b (suc g)
 below n p r t g b e h = elim (order b 0) [ Same f ↦ below_first n p r t g b e h f | Less k f ↦ absurd (omega arith) | More k f ↦ below_inside n p r t g b e h (omega arith) ]
 
-places-share : (n p r t b : ℕ) → t ≤ n → b ≤ n → places n p r t b ≡ share n p r b (between t b)
+places-share : (n p r t b : ℕ) → t ≤ n → b ≤ n → places n p r t b ≡ share n p r b (apart t b)
 places-share n p r t b h k = elim (order t b) [
-  | Same e ↦ (let d : between t b ≡ 0 = omega arith in subst (λ (x : ℕ). places n p r t x ≡ share n p r x (between t b)) e (rw d (at n p r t h)))
-  | Less g e ↦ (let d : between t b ≡ suc g = omega arith in rw d (above n p r t g b e k))
-  | More g e ↦ (let d : between t b ≡ suc g = omega arith in rw d (below n p r t g b e h))
+  | Same e ↦ (let d : apart t b ≡ 0 = omega arith in subst (λ (x : ℕ). places n p r t x ≡ share n p r x (apart t b)) e (rw d (at n p r t h)))
+  | Less g e ↦ (let d : apart t b ≡ suc g = omega arith in rw d (above n p r t g b e k))
+  | More g e ↦ (let d : apart t b ≡ suc g = omega arith in rw d (below n p r t g b e h))
 ]
 
 -- how many draw lists end at the place b
 pub count-places : (n p r t b : ℕ) (test : List ℕ → Bool) → t ≤ n → b ≤ n →
     Walks r p test (λ _. eqb t b) (λ d. eqb (up_to n t (leading_run p d)) b) (λ d. eqb (down_to t (leading_run p d)) b) →
-    count ((p + r + p) ∷ replicate n (p + r)) test ≡ share n p r b (between t b)
+    count ((p + r + p) ∷ replicate n (p + r)) test ≡ share n p r b (apart t b)
 unfolding places
 count-places n p r t b test h k w = count-walks r p (replicate n (p + r)) test _ _ _ w ∙ places-share n p r t b h k
 

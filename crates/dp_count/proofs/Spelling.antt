@@ -1,10 +1,10 @@
 -- Digits read one at a time, each step within 64 bits, spell the number that the whole list spells.
 use Rattle.std.proofs.Common.{◌≡◌, ℕ, ◌+◌, ◌*◌, ◌-◌, ◌^◌, ◌≤◌, ◌<◌, Bool, true, false, cond, ◌&&◌, List, [], ◌∷◌, length, Option, Some, None, refl, sym, ◌∙◌, ap, fold, arith, drop, lit<, ◌≢◌, suc, add-zero, zero-add, get_or}
-use Rattle.std.specs.Prelude.{nat_lt, nat_le, option_and_then, IfSome, option_map, pos, neg_ℤ, ◌==◌}
+use Rattle.std.specs.Prelude.{nat_le, option_and_then, IfSome, option_map, pos, neg_ℤ, ◌==◌}
 use Rattle.std.specs.List.{list_all}
 use Rattle.std.specs.Char.{is_ascii_digit}
 use Rattle.std.proofs.lemmas.Bool.Decides.{nat_tests}
-use Rattle.std.proofs.lemmas.Bool.{and_parts, lt-ltb, ltb-true}
+use Rattle.std.proofs.lemmas.Bool.{and_parts}
 use Rattle.std.proofs.lemmas.List.{at_drop_more, at_drop_all}
 use Rattle.std.proofs.Math.Nat.{pow-suc, pow-le-pow_right}
 use Rattle.dp_count.specs.Digits.{word, decimal, short_decimal, signed_decimal, are_digits, digits_value}
@@ -17,33 +17,36 @@ unfoldable pub spelled : ℕ → List ℕ → Option ℕ
 spelled n [] = word (Some n)
 spelled n (byte ∷ bytes) = cond (is_ascii_digit byte) (option_and_then (λ m. spelled m bytes) (word (Some (more n byte)))) None
 
+fits-word : (n : ℕ) → n < 2 ^ 64 → nat_le n (2 ^ 64 - 1) ≡ true
+fits-word n h = grind (arith, nat_tests)
+
 grows : (n : ℕ) (bytes : List ℕ) → n ≤ fold more n bytes
 grows n [] = omega arith
 grows n (byte ∷ bytes) = omega (arith, grows (more n byte) bytes)
 
 -- a number past 64 bits stays past them
-past : (n : ℕ) (bytes : List ℕ) → nat_lt n (2 ^ 64) ≡ false → word (Some (fold more n bytes)) ≡ None
+past : (n : ℕ) (bytes : List ℕ) → nat_le n (2 ^ 64 - 1) ≡ false → word (Some (fold more n bytes)) ≡ None
 past n bytes h =
     let g = grows n bytes in
-    let e : nat_lt (fold more n bytes) (2 ^ 64) ≡ false = grind (arith, nat_tests) in
+    let e : nat_le (fold more n bytes) (2 ^ 64 - 1) ≡ false = grind (arith, nat_tests) in
     rw e refl
 
 none_either_way : (c : Bool) (o : Option ℕ) → o ≡ None → None ≡ cond c o None
 none_either_way true o h = sym h
 none_either_way false o h = refl
 
-spelled-step : (digit fits : Bool) (m : ℕ) (bytes : List ℕ) → nat_lt m (2 ^ 64) ≡ fits →
-    (nat_lt m (2 ^ 64) ≡ true → spelled m bytes ≡ cond (list_all is_ascii_digit bytes) (word (Some (fold more m bytes))) None) →
+spelled-step : (digit fits : Bool) (m : ℕ) (bytes : List ℕ) → nat_le m (2 ^ 64 - 1) ≡ fits →
+    (nat_le m (2 ^ 64 - 1) ≡ true → spelled m bytes ≡ cond (list_all is_ascii_digit bytes) (word (Some (fold more m bytes))) None) →
     cond digit (option_and_then (λ k. spelled k bytes) (cond fits (Some m) None)) None ≡ cond (digit && list_all is_ascii_digit bytes) (word (Some (fold more m bytes))) None
 spelled-step false fits m bytes e ih = refl
 spelled-step true true m bytes e ih = ih e
 spelled-step true false m bytes e ih = none_either_way (list_all is_ascii_digit bytes) (word (Some (fold more m bytes))) (past m bytes e)
 
-spelled-all : (n : ℕ) (bytes : List ℕ) → nat_lt n (2 ^ 64) ≡ true → spelled n bytes ≡ cond (list_all is_ascii_digit bytes) (word (Some (fold more n bytes))) None
+spelled-all : (n : ℕ) (bytes : List ℕ) → nat_le n (2 ^ 64 - 1) ≡ true → spelled n bytes ≡ cond (list_all is_ascii_digit bytes) (word (Some (fold more n bytes))) None
 unfolding spelled
 spelled-all n [] h = refl
 spelled-all n (byte ∷ bytes) h =
-    spelled-step (is_ascii_digit byte) (nat_lt (more n byte) (2 ^ 64)) (more n byte) bytes refl (spelled-all (more n byte) bytes)
+    spelled-step (is_ascii_digit byte) (nat_le (more n byte) (2 ^ 64 - 1)) (more n byte) bytes refl (spelled-all (more n byte) bytes)
 
 word-cond : (c : Bool) (n : ℕ) → cond c (word (Some n)) None ≡ word (cond c (Some n) None)
 word-cond true n = refl
@@ -102,28 +105,28 @@ spelled-more bytes n i read h e =
 pub spelled-end : (bytes : List ℕ) (n i : ℕ) → length bytes ≤ i → n < 2 ^ 64 → spelled n (drop i bytes) ≡ Some n
 unfolding spelled
 spelled-end bytes n i h fits =
-    at_drop_all (spelled n) bytes i h ∙ rw (lt-ltb n (2 ^ 64) fits) refl
+    at_drop_all (spelled n) bytes i h ∙ rw (fits-word n fits) refl
 
 pub decimal-empty : (bytes : List ℕ) → length bytes ≤ 0 → word (decimal bytes) ≡ None
 unfolding decimal
 decimal-empty [] h = refl
 decimal-empty (byte ∷ bytes) h = absurd (omega arith)
 
-word-lt : (fits : Bool) (m n : ℕ) → nat_lt m (2 ^ 64) ≡ fits → cond fits (Some m) None ≡ Some n → n < 2 ^ 64
+word-lt : (fits : Bool) (m n : ℕ) → nat_le m (2 ^ 64 - 1) ≡ fits → cond fits (Some m) None ≡ Some n → n < 2 ^ 64
 word-lt true m n e h =
     let same : m ≡ n = cc in
-    let lt = ltb-true m (2 ^ 64) e in
+    let le : m ≤ 2 ^ 64 - 1 = grind (arith, nat_tests) in
     omega arith
 word-lt false m n e h = absurd cc
 
 -- what was read is a number of 64 bits
 pub read-lt : (digit : Bool) (m n : ℕ) → cond digit (word (Some m)) None ≡ Some n → n < 2 ^ 64
-read-lt true m n h = word-lt (nat_lt m (2 ^ 64)) m n refl h
+read-lt true m n h = word-lt (nat_le m (2 ^ 64 - 1)) m n refl h
 read-lt false m n h = absurd cc
 
 pub word-of : (o : Option ℕ) → ((n : ℕ) → o ≡ Some n → n < 2 ^ 64) → word o ≡ o
 word-of None h = refl
-word-of (Some n) h = rw (lt-ltb n (2 ^ 64) (h n refl)) refl
+word-of (Some n) h = rw (fits-word n (h n refl)) refl
 
 -- a short number fits 64 bits
 pub word-short : (bytes : List ℕ) (longest : ℕ) → length bytes ≤ longest → longest ≤ 19 → word (decimal bytes) ≡ decimal bytes

@@ -1,7 +1,8 @@
 -- What decimal digits spell.
-use Rattle.std.specs.Prelude.{ℕ, ℤ, pos, neg_ℤ, ◌<ℤ◌, ◌+◌, ◌*◌, ◌-◌, ◌^◌, ◌==◌, Bool, false, List, [], ◌∷◌, length, Option, Some, None, if◌then◌else◌, nat_lt, nat_le, fold, option_map, option_and_then}
+use Rattle.std.specs.Prelude.{ℕ, ℤ, pos, neg_ℤ, ◌<ℤ◌, ◌+◌, ◌*◌, ◌-◌, ◌^◌, ◌==◌, Bool, false, List, [], ◌∷◌, length, Option, Some, None, if◌then◌else◌, nat_le, fold, option_map, option_and_then}
 use Rattle.std.specs.List.{list_all}
 use Rattle.std.specs.Char.{is_ascii_digit}
+use Rattle.dp_count.specs.AtMost.{at_most}
 
 -- the number that a list of digits spells, the most significant first
 abbrev pub digits_value : List ℕ → ℕ
@@ -18,7 +19,7 @@ decimal bytes = if are_digits bytes then Some (digits_value bytes) else None
 
 -- a number that a word of 64 bits holds
 abbrev pub word : Option ℕ → Option ℕ
-word number = option_and_then (λ n. if nat_lt n (2 ^ 64) then Some n else None) number
+word number = option_and_then (at_most (2 ^ 64 - 1)) number
 
 -- the number that 1 to `longest` digits spell
 unfoldable pub short_decimal : ℕ → List ℕ → Option ℕ

@@ -1,4 +1,6 @@
 pub mod AllDrawLists
+pub mod Apart
+pub mod AtMost
 pub mod Bounds
 pub mod CountingLaws
 pub mod Digits

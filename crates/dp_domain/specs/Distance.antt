@@ -1,17 +1,14 @@
 -- How far two lists are from each other in any order, and how far two vectors are.
-use Rattle.std.specs.Prelude.{ℕ, ◌+◌, ◌-◌, ℤ, ◌-ℤ◌, nat_abs, Bool, List, [], ◌∷◌, ◌++◌, Option, cond, sum_by, count_by, zip, nat_eq, IsPermutation}
+use Rattle.std.specs.Prelude.{ℕ, ℤ, ◌-ℤ◌, nat_abs, Bool, List, [], ◌∷◌, ◌++◌, Option, cond, sum_by, count_by, zip, nat_eq, IsPermutation}
 use Rattle.std.specs.List.{list_any}
 use Rattle.std.specs.Option.{option_eq}
 use Rattle.std.specs.Ordering.{int_eq}
 use Rattle.std.specs.Cmp.Lexicographic.{pointwise}
+pub use Rattle.dp_count.specs.Apart.{apart}
 
 -- how many places of the list hold an element
 abbrev pub occurrences : {E : Type 0} → (E → E → Bool) → List E → E → ℕ
 occurrences same xs e = count_by (λ x. same e x) xs
-
--- the absolute difference of two numbers
-abbrev pub apart : ℕ → ℕ → ℕ
-apart a b = (a - b) + (b - a)
 
 -- the members of the list, each once
 unfoldable pub distinct : {E : Type 0} → (E → E → Bool) → List E → List E

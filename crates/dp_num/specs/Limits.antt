@@ -1,5 +1,6 @@
 -- Numbers that are refused past a limit.
 use Rattle.std.specs.Prelude.{◌≡◌, ℕ, ◌+◌, ◌^◌, ◌≤◌, ◌<◌, ◌==◌, ◌&&◌, Bool, Option, Some, None, if◌then◌else◌, nat_lt, nat_le}
+use Rattle.dp_count.specs.AtMost.{at_most}
 
 -- the greatest number of units
 abbrev pub most_units : ℕ
@@ -7,7 +8,7 @@ most_units = 2 ^ 32
 
 -- a number of units, at most 2^32
 abbrev pub capped : ℕ → Option ℕ
-capped n = if nat_le n most_units then Some n else None
+capped n = at_most most_units n
 
 -- the two numbers of a ratio p / q
 pub record Fraction : Type 0 where

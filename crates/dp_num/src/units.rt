@@ -4,6 +4,7 @@ ghost use Rattle.std.specs.Int.{div_ceil, int_div_euclid};
 ghost use Rattle.dp_num.specs.Limits.{capped};
 
 use crate::Past;
+use dp_count::at_most;
 
 /// The greatest number of units, 2^32.
 pub const MOST_UNITS: u64 = 1 << 32;
@@ -14,7 +15,7 @@ pub fn add_units(a: u64, b: u64) -> Result<u64, Past>
     requires second { b ≤ 2 ^ 32 }
     ensures { result_ok result ≡ capped (a + b) }
 {
-    at_most(a + b)
+    within_most(a + b)
 }
 
 /// The product of two numbers of units. `Past` comes exactly where it is greater than 2^32.
@@ -26,7 +27,7 @@ pub fn mul_units(a: u64, b: u64) -> Result<u64, Past>
     let Some(product) = a.checked_mul(b) else {
         return Err(Past);
     };
-    at_most(product)
+    within_most(product)
 }
 
 /// `a` / `g`, rounded up.
@@ -46,13 +47,10 @@ pub fn floor_div(a: i64, g: i64) -> i64
 }
 
 /// The number, where it is at most 2^32.
-fn at_most(units: u64) -> Result<u64, Past>
+fn within_most(units: u64) -> Result<u64, Past>
     ensures { result_ok result ≡ capped units }
 {
-    if units > MOST_UNITS {
-        return Err(Past);
-    }
-    Ok(units)
+    at_most(MOST_UNITS, units).ok_or(Past)
 }
 
 #[cfg(test)]
