@@ -1,13 +1,14 @@
 -- Digits read one at a time, each step within 64 bits, spell the number that the whole list spells.
-use Rattle.std.proofs.Common.{◌≡◌, ℕ, ◌+◌, ◌*◌, ◌-◌, ◌^◌, ◌≤◌, ◌<◌, Bool, true, false, cond, ◌&&◌, List, [], ◌∷◌, length, Option, Some, None, refl, sym, ◌∙◌, ap, fold, arith, drop, lit<, ◌≢◌, suc, add-zero, zero-add, get_or}
-use Rattle.std.specs.Prelude.{nat_le, option_and_then, IfSome, option_map, pos, neg_ℤ, ◌==◌}
+use Rattle.std.proofs.Common.{◌≡◌, ℕ, ◌+◌, ◌*◌, ◌-◌, ◌^◌, ◌≤◌, ◌<◌, Bool, true, false, cond, ◌&&◌, List, [], ◌∷◌, length, Option, Some, None, refl, sym, ◌∙◌, ap, fold, arith, drop, lit<, ◌≢◌, suc, add-zero, zero-add, get_or, ℤ, to_z, of_z, SFits, w64}
+use Rattle.std.specs.Prelude.{nat_le, option_and_then, IfSome, option_map, ◌==◌}
 use Rattle.std.specs.List.{list_all}
 use Rattle.std.specs.Char.{is_ascii_digit}
 use Rattle.std.proofs.lemmas.Bool.Decides.{nat_tests}
+use Rattle.std.proofs.lemmas.Int.{ints, to_z-of_z}
 use Rattle.std.proofs.lemmas.Bool.{and_parts}
 use Rattle.std.proofs.lemmas.List.{at_drop_more, at_drop_all}
 use Rattle.std.proofs.Math.Nat.{pow-suc, pow-le-pow_right}
-use Rattle.dp_count.specs.Digits.{word, decimal, short_decimal, signed_decimal, are_digits, digits_value}
+use Rattle.dp_count.specs.Digits.{word, decimal, short_decimal, without_sign, with_sign, by_sign, are_digits, digits_value}
 
 abbrev pub more : ℕ → ℕ → ℕ
 more n byte = 10 * n + (byte - 48)
@@ -148,19 +149,34 @@ pub below-from : (o : Option ℕ) (limit : ℕ) → ((n : ℕ) → o ≡ Some n 
 below-from None limit h = tt
 below-from (Some n) limit h = h n refl
 
-pub signed-empty : (bytes : List ℕ) (longest : ℕ) → length bytes ≡ 0 → signed_decimal longest bytes ≡ None
-unfolding signed_decimal
-signed-empty [] longest h = refl
-signed-empty (byte ∷ bytes) longest h = absurd (omega arith)
+pub sign-empty : (bytes : List ℕ) → length bytes ≡ 0 → without_sign bytes ≡ (false, bytes)
+unfolding without_sign
+sign-empty [] h = refl
+sign-empty (byte ∷ bytes) h = absurd (omega arith)
 
-pub signed-minus : (bytes rest : List ℕ) (byte longest : ℕ) → bytes ≡ byte ∷ rest → byte ≡ 45 → signed_decimal longest bytes ≡ option_map (λ n. neg_ℤ (pos n)) (short_decimal longest rest)
-unfolding signed_decimal
-signed-minus bytes rest byte longest e h =
+pub sign-minus : (bytes rest : List ℕ) (byte : ℕ) → bytes ≡ byte ∷ rest → byte ≡ 45 → without_sign bytes ≡ (true, rest)
+unfolding without_sign
+sign-minus bytes rest byte e h =
     let minus : (byte == 45) ≡ true = grind (arith, nat_tests) in
-    ap (signed_decimal longest) e ∙ rw minus refl
+    ap without_sign e ∙ rw minus refl
 
-pub signed-plain : (bytes rest : List ℕ) (byte longest : ℕ) → bytes ≡ byte ∷ rest → byte ≢ 45 → signed_decimal longest bytes ≡ option_map pos (short_decimal longest bytes)
-unfolding signed_decimal
-signed-plain bytes rest byte longest e h =
+pub sign-plain : (bytes rest : List ℕ) (byte : ℕ) → bytes ≡ byte ∷ rest → byte ≢ 45 → without_sign bytes ≡ (false, bytes)
+unfolding without_sign
+sign-plain bytes rest byte e h =
     let plain : (byte == 45) ≡ false = grind (arith, nat_tests) in
-    ap (signed_decimal longest) e ∙ rw plain refl ∙ ap (λ bs. option_map pos (short_decimal longest bs)) (sym e)
+    ap without_sign e ∙ rw plain refl ∙ ap (λ (bs : List ℕ). (false, bs)) (sym e)
+
+-- digits that spell nothing, and digits that spell a number, behind a sign or without
+pub by_sign-none : (spelled : List ℕ → Option ℕ) (bytes digits : List ℕ) (negative : Bool) → (negative, digits) ≡ without_sign bytes
+    → None ≡ spelled digits → None ≡ by_sign spelled bytes
+by_sign-none spelled bytes digits negative e h = rw (← e) (ap (option_map (with_sign negative)) h)
+
+sign-fits : (negative : Bool) (n : ℕ) → n < 2 ^ 63 → SFits w64 (with_sign negative n)
+sign-fits true n h = omega (arith, ints)
+sign-fits false n h = omega (arith, ints)
+
+pub by_sign-some : (spelled : List ℕ → Option ℕ) (bytes digits : List ℕ) (negative : Bool) (n : ℕ) (number : ℤ) → (negative, digits) ≡ without_sign bytes
+    → Some n ≡ spelled digits → n < 2 ^ 63 → number ≡ with_sign negative n → Some (to_z w64 (of_z w64 number)) ≡ by_sign spelled bytes
+by_sign-some spelled bytes digits negative n number e h below is =
+    let same = ap (λ (z : ℤ). to_z w64 (of_z w64 z)) is ∙ to_z-of_z w64 _ (sign-fits negative n below) in
+    rw (← e) (ap Some same ∙ ap (option_map (with_sign negative)) h)

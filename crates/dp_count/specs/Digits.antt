@@ -1,5 +1,5 @@
 -- What decimal digits spell.
-use Rattle.std.specs.Prelude.{ℕ, ℤ, pos, neg_ℤ, ◌<ℤ◌, ◌+◌, ◌*◌, ◌-◌, ◌^◌, ◌==◌, Bool, false, List, [], ◌∷◌, length, Option, Some, None, if◌then◌else◌, nat_le, fold, option_map, option_and_then}
+use Rattle.std.specs.Prelude.{ℕ, ℤ, pos, neg_ℤ, ◌<ℤ◌, ◌+◌, ◌*◌, ◌-◌, ◌^◌, ◌==◌, Bool, true, false, List, [], ◌∷◌, length, Option, Some, None, if◌then◌else◌, nat_le, fold, option_map, option_and_then}
 use Rattle.std.specs.List.{list_all}
 use Rattle.std.specs.Char.{is_ascii_digit}
 use Rattle.dp_count.specs.AtMost.{at_most}
@@ -25,12 +25,22 @@ word number = option_and_then (at_most (2 ^ 64 - 1)) number
 unfoldable pub short_decimal : ℕ → List ℕ → Option ℕ
 short_decimal longest bytes = if nat_le (length bytes) longest then decimal bytes else None
 
+-- whether the bytes begin with a `-`, and the bytes after it
+unfoldable pub without_sign : List ℕ → Bool × List ℕ
+without_sign [] = (false, [])
+without_sign (byte ∷ bytes) = if byte == 45 then (true, bytes) else (false, byte ∷ bytes)
+
+-- the number, with a `-` before it or without
+abbrev pub with_sign : Bool → ℕ → ℤ
+with_sign negative n = if negative then neg_ℤ (pos n) else pos n
+
+-- the number of an optional `-` and digits, where `spelled` says what the digits spell
+abbrev pub by_sign : (List ℕ → Option ℕ) → List ℕ → Option ℤ
+by_sign spelled bytes = option_map (with_sign (without_sign bytes).0) (spelled (without_sign bytes).1)
+
 -- the number that an optional `-` and 1 to `longest` digits spell
 unfoldable pub signed_decimal : ℕ → List ℕ → Option ℤ
-signed_decimal longest [] = None
-signed_decimal longest (byte ∷ bytes) = if byte == 45
-    then option_map (λ n. neg_ℤ (pos n)) (short_decimal longest bytes)
-    else option_map pos (short_decimal longest (byte ∷ bytes))
+signed_decimal longest bytes = by_sign (short_decimal longest) bytes
 
 -- the number lies strictly between -limit and limit
 abbrev pub IsWithin : ℕ → ℤ → Type 0

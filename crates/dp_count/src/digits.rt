@@ -1,6 +1,6 @@
-ghost use Rattle.std.specs.Prelude.{◌≡◌, ◌≤◌, ◌<◌, ◌^◌, ◌+◌, ◌*◌, ◌-◌, if◌then◌else◌, None, IfSome, option_map, pos, neg_ℤ};
+ghost use Rattle.std.specs.Prelude.{◌≡◌, ◌≤◌, ◌<◌, ◌^◌, ◌+◌, ◌*◌, ◌-◌, if◌then◌else◌, None, IfSome};
 ghost use Rattle.std.specs.Char.{is_ascii_digit};
-ghost use Rattle.dp_count.specs.Digits.{decimal, short_decimal, signed_decimal, word, IsWithin};
+ghost use Rattle.dp_count.specs.Digits.{decimal, short_decimal, signed_decimal, word, IsWithin, without_sign, with_sign};
 
 /// The number that one or more ASCII digits spell, where they are nothing else and it is below 2^64.
 pub fn decimal(bytes: &[u8]) -> Option<u64>
@@ -34,30 +34,35 @@ pub fn signed_decimal(bytes: &[u8], longest: usize) -> Option<i64>
     ensures number { result ≡ signed_decimal longest bytes.now }
     ensures within { IfSome result (IsWithin (10 ^ longest)) }
 {
-    let (first, rest) = bytes.split_first()?;
+    let (negative, digits) = without_sign(bytes);
+    let number = short_decimal(digits, longest)?;
+    Some(with_sign(negative, number))
+}
+
+/// Whether the bytes begin with a `-`, and the bytes after it.
+pub fn without_sign(bytes: &[u8]) -> (bool, &[u8])
+    ensures { (result.0, result.1.now) ≡ without_sign bytes.now }
+{
+    let Some((first, rest)) = bytes.split_first() else {
+        return (false, bytes);
+    };
     if *first == b'-' {
-        negative(rest, longest)
+        (true, rest)
     } else {
-        positive(bytes, longest)
+        (false, bytes)
     }
 }
 
-fn positive(bytes: &[u8], longest: usize) -> Option<i64>
-    requires { longest ≤ 18 }
-    ensures number { result ≡ option_map pos (short_decimal longest bytes.now) }
-    ensures within { IfSome result (IsWithin (10 ^ longest)) }
+/// The number, with a `-` before it or without.
+pub fn with_sign(negative: bool, number: u64) -> i64
+    requires { number < 2 ^ 63 }
+    ensures { result ≡ with_sign negative number }
 {
-    let number = short_decimal(bytes, longest)?;
-    Some(number as i64)
-}
-
-fn negative(bytes: &[u8], longest: usize) -> Option<i64>
-    requires { longest ≤ 18 }
-    ensures number { result ≡ option_map (λ n. neg_ℤ (pos n)) (short_decimal longest bytes.now) }
-    ensures within { IfSome result (IsWithin (10 ^ longest)) }
-{
-    let number = short_decimal(bytes, longest)?;
-    Some(-(number as i64))
+    if negative {
+        -(number as i64)
+    } else {
+        number as i64
+    }
 }
 
 /// The number with one more digit at its end.

@@ -10,7 +10,7 @@ pub mod laws;
 mod limits;
 mod shape;
 
-pub use digits::{decimal, short_decimal, signed_decimal};
+pub use digits::{decimal, short_decimal, signed_decimal, with_sign, without_sign};
 pub use faults::{Failed, NoMemory};
 pub use items::Items;
 pub use limits::at_most;
