@@ -13,6 +13,14 @@ item_limit = 2 ^ 31
 abbrev pub number_limit : ℕ
 number_limit = 2 ^ 61
 
+-- the greatest difference of the bounds of a narrow range, which has at most 65,536 numbers
+abbrev pub most_width : ℕ
+most_width = 65535
+
+-- the greatest number of edges, or of texts that are numbered: one more is a number of categories
+abbrev pub most_listed : ℕ
+most_listed = 1023
+
 -- a number from lo to hi
 abbrev pub IsBetween : ℤ → ℤ → ℤ → Type 0
 IsBetween lo hi z = (lo ≤ℤ z) × (z ≤ℤ hi)
@@ -32,7 +40,7 @@ FewCategories n = (2 ≤ n) × (n ≤ 1024)
 
 -- from 1 to 1,023, so that with one more it is a number of categories
 abbrev pub few_and_one : ℕ → Bool
-few_and_one n = nat_le 1 n && nat_le n 1023
+few_and_one n = nat_le 1 n && nat_le n most_listed
 
 -- the domain's numbers are within their limits
 abbrev pub Fits : Domain → Type 0

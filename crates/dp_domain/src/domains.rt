@@ -35,6 +35,9 @@ const MOST_COLUMNS: u32 = 64;
 
 const MOST_CATEGORIES: u32 = 1024;
 
+/// The greatest number of edges, or of texts that are numbered: one more is a number of categories.
+pub const MOST_LISTED: u64 = 1_023;
+
 impl Domain {
     /// Whether the domain's numbers are within their limits and no lower bound is above its upper bound.
     pub fn fits(&self) -> bool
@@ -132,7 +135,7 @@ fn few_categories(n: u32) -> bool
 pub fn few_and_one(n: u64) -> bool
     ensures { result ≡ few_and_one n }
 {
-    1 <= n && n < u64::from(MOST_CATEGORIES)
+    1 <= n && n <= MOST_LISTED
 }
 
 fn has_size(size: &Option<u32>, len: u64) -> bool

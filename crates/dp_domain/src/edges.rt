@@ -1,5 +1,6 @@
 ghost use Rattle.std.specs.Prelude.{◌≡◌, ◌≤◌, ◌≤ℤ◌, pos, true, length};
 ghost use Rattle.std.specs.List.{list_all};
+ghost use Rattle.dp_domain.specs.Domains.{most_listed};
 ghost use Rattle.dp_domain.specs.Edges.{edges_at_most, is_rising, are_edges};
 ghost use Rattle.dp_domain.specs.Ranges.{is_within};
 
@@ -7,7 +8,7 @@ use crate::domains::few_and_one;
 
 /// How many strictly rising edges, at most 1,023, are at most the number, by binary search.
 pub fn edges_at_most(edges: &[i64], number: &i64) -> u32
-    requires few { length edges.now ≤ 1023 }
+    requires few { length edges.now ≤ most_listed }
     requires rising { is_rising edges.now ≡ true }
     ensures { result ≡ edges_at_most edges.now number.now }
 {

@@ -13,12 +13,13 @@ mod ranges;
 mod values;
 
 pub use copies::Duplicate;
-pub use domains::{Domain, few_and_one};
+pub use domains::{Domain, MOST_LISTED, few_and_one};
 pub use edges::{are_edges, edges_at_most};
 pub use lists::{Cats, Cells, Ints, Items, OptInts, Record, Rows, Text, Texts};
 pub use metrics::Metric;
 pub use ranges::{
-    ITEM_LIMIT, NUMBER_LIMIT, clamped, is_item_range, is_narrow, is_narrow_range, is_number_range,
+    ITEM_LIMIT, MOST_WIDTH, NUMBER_LIMIT, clamped, is_item_range, is_narrow, is_narrow_range,
+    is_number_range,
 };
 pub use values::Value;
 

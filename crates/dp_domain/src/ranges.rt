@@ -9,7 +9,7 @@ pub const ITEM_LIMIT: i64 = 1 << 31;
 pub const NUMBER_LIMIT: i64 = 1 << 61;
 
 /// The greatest difference of the bounds of a range of at most 65,536 numbers.
-const MOST_WIDTH: i64 = 65_535;
+pub const MOST_WIDTH: i64 = 65_535;
 
 /// Whether the bounds are in order, from -2^31 to 2^31.
 pub fn is_item_range(lo: &i64, hi: &i64) -> bool
