@@ -1,6 +1,7 @@
 -- Casting texts to numbers.
-use Rattle.std.specs.Prelude.{ℕ, ℤ, pos, neg_ℤ, ◌==◌, true, List, [], ◌∷◌, Option, Some, None, Result, Err, map, nat_le, option_map, option_and_then, if◌then◌else◌}
-use Rattle.dp_count.specs.Digits.{decimal}
+use Rattle.std.specs.Prelude.{ℕ, ℤ, pos, neg_ℤ, true, List, Option, Result, Err, map, option_and_then}
+use Rattle.dp_count.specs.AtMost.{at_most}
+use Rattle.dp_count.specs.Digits.{decimal, by_sign}
 use Rattle.dp_num.specs.Limits.{capped}
 use Rattle.dp_domain.specs.Domains.{item_limit}
 use Rattle.dp_domain.specs.declared.domains.Domain.{Domain}
@@ -16,14 +17,11 @@ use Rattle.dp_law.specs.Making.{tested, is_symmetric}
 
 -- a number, where it is at most 2 ^ 31
 abbrev pub small : Option ℕ → Option ℕ
-small number = option_and_then (λ n. if nat_le n item_limit then Some n else None) number
+small number = option_and_then (at_most item_limit) number
 
 -- the number from -2 ^ 31 to 2 ^ 31 that an optional `-` and one or more digits spell
 unfoldable pub cast : List ℕ → Option ℤ
-cast [] = None
-cast (byte ∷ bytes) = if byte == 45
-    then option_map (λ n. neg_ℤ (pos n)) (small (decimal bytes))
-    else option_map pos (small (decimal (byte ∷ bytes)))
+cast text = by_sign (λ digits. small (decimal digits)) text
 
 -- each text cast
 abbrev pub cast_value : Value → Value

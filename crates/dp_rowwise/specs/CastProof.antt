@@ -1,5 +1,5 @@
 -- Casting is stable.
-use Rattle.std.proofs.Common.{◌≡◌, ℕ, ℤ, pos, neg_ℤ, ◌^◌, ◌≤◌, Bool, true, false, cond, List, [], ◌∷◌, get_or, Option, Some, None, refl, arith}
+use Rattle.std.proofs.Common.{◌≡◌, ℕ, ℤ, pos, neg_ℤ, ◌^◌, ◌≤◌, Bool, true, false, cond, List, get_or, Option, Some, None, refl, arith}
 use Rattle.std.specs.Prelude.{IfSome}
 use Rattle.std.proofs.lemmas.Int.{ints}
 use Rattle.std.proofs.lemmas.List.{length-map}
@@ -16,37 +16,27 @@ use Rattle.dp_domain.proofs.Equality.{text_eq-decides, opt_int_eq-decides}
 use Rattle.dp_law.specs.Mapping.{IsStable}
 use Rattle.dp_law.proofs.Caps.{capped-same, capped-le}
 use Rattle.dp_law.proofs.Suits.{both-hold}
-use Rattle.std.specs.Prelude.{nat_le, ◌==◌, option_map}
+use Rattle.std.specs.Prelude.{nat_le, option_map}
 use Rattle.std.proofs.lemmas.Bool.Decides.{nat_tests}
-use Rattle.dp_count.specs.Digits.{decimal}
+use Rattle.dp_count.specs.Digits.{decimal, without_sign, with_sign}
 use Rattle.dp_rowwise.specs.Cast.{small, cast, cast_value, cast_mapping}
 
 abbrev IsSmall : ℤ → Type 0
 IsSmall z = IsBetween (neg_ℤ (pos (2 ^ 31))) (pos (2 ^ 31)) z
 
 signed-small : (negative fits : Bool) (n : ℕ) → nat_le n (2 ^ 31) ≡ fits
-    → IfSome (cond negative (option_map (λ m. neg_ℤ (pos m)) (cond fits (Some n) None)) (option_map pos (cond fits (Some n) None))) IsSmall
+    → IfSome (option_map (with_sign negative) (cond fits (Some n) None)) IsSmall
 signed-small true true n h = let le : n ≤ 2 ^ 31 = grind (arith, nat_tests) in (omega (arith, ints), omega (arith, ints))
 signed-small false true n h = let le : n ≤ 2 ^ 31 = grind (arith, nat_tests) in (omega (arith, ints), omega (arith, ints))
-signed-small true false n h = tt
-signed-small false false n h = tt
+signed-small negative false n h = tt
 
-negative-small : (number : Option ℕ) → IfSome (option_map (λ n. neg_ℤ (pos n)) (small number)) IsSmall
-negative-small None = tt
-negative-small (Some n) = signed-small true (nat_le n (2 ^ 31)) n refl
-
-positive-small : (number : Option ℕ) → IfSome (option_map pos (small number)) IsSmall
-positive-small None = tt
-positive-small (Some n) = signed-small false (nat_le n (2 ^ 31)) n refl
-
-either-small : (negative : Bool) (one other : Option ℤ) → IfSome one IsSmall → IfSome other IsSmall → IfSome (cond negative one other) IsSmall
-either-small true one other h k = h
-either-small false one other h k = k
+either-small : (negative : Bool) (number : Option ℕ) → IfSome (option_map (with_sign negative) (small number)) IsSmall
+either-small negative None = tt
+either-small negative (Some n) = signed-small negative (nat_le n (2 ^ 31)) n refl
 
 cast-small : (text : List ℕ) → IfSome (cast text) IsSmall
 unfolding cast
-cast-small [] = tt
-cast-small (byte ∷ bytes) = either-small (byte == 45) (option_map (λ n. neg_ℤ (pos n)) (small (decimal bytes))) (option_map pos (small (decimal (byte ∷ bytes)))) (negative-small (decimal bytes)) (positive-small (decimal (byte ∷ bytes)))
+cast-small text = either-small (without_sign text).0 (decimal (without_sign text).1)
 
 cast_lands : (v : Value) → Has domain.Texts v → Has (domain.OptInts (neg_ℤ (pos (2 ^ 31))) (pos (2 ^ 31))) (cast_value v)
 cast_lands (value.Texts texts) has = (rw length-map has, All-map (λ x. IfSome x IsSmall) cast texts (λ k d within. cast-small (get_or texts k d)))

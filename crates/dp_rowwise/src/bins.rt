@@ -1,5 +1,5 @@
 ghost use Rattle.std.specs.Prelude.{◌≡◌, ◌≤◌, true, map, length, IfOk};
-ghost use Rattle.dp_domain.specs.Domains.{Fits};
+ghost use Rattle.dp_domain.specs.Domains.{Fits, most_listed};
 ghost use Rattle.dp_domain.specs.Edges.{edges_at_most, is_rising};
 ghost use Rattle.dp_domain.specs.declared.domains.Domain.TheVariants as domain;
 ghost use Rattle.dp_domain.proofs.Limits.{Fits-prop};
@@ -110,7 +110,7 @@ impl Transformation for Bins {
 
 /// The bin of each number.
 fn bin_all(alloc: Global, edges: &[i64], numbers: &[i64]) -> Result<Vec<u32>, NoMemory>
-    requires few { length edges.now ≤ 1023 }
+    requires few { length edges.now ≤ most_listed }
     requires rising { is_rising edges.now ≡ true }
     ensures { IfOk result (λ bins. bins.items ≡ map (edges_at_most edges.now) numbers.now) }
 {

@@ -1,10 +1,10 @@
-ghost use Rattle.std.specs.Prelude.{◌≡◌, ◌≤◌, ◌^◌, map, option_map, pos, neg_ℤ, IfOk, IfSome};
+ghost use Rattle.std.specs.Prelude.{◌≡◌, ◌≤◌, map, IfOk, IfSome};
 ghost use Rattle.dp_count.specs.Digits.{decimal};
-ghost use Rattle.dp_domain.specs.Domains.{Fits};
+ghost use Rattle.dp_domain.specs.Domains.{Fits, item_limit};
 ghost use Rattle.dp_law.specs.Making.{Makes};
 ghost use Rattle.dp_rowwise.specs.Cast.{small, cast, cast_from};
 
-use dp_count::{NoMemory, decimal};
+use dp_count::{NoMemory, at_most, decimal, with_sign, without_sign};
 use dp_domain::{Domain, ITEM_LIMIT, Metric, OptInts, Text, Texts, Value};
 use dp_law::{Refused, Transformation};
 use dp_num::Past;
@@ -95,40 +95,18 @@ fn cast_all(alloc: Global, texts: &[Text]) -> Result<Vec<Option<i64>>, NoMemory>
 }
 
 /// The number that an optional `-` and one or more digits spell.
-#[tactic(auto, unfolding(crate::specs::Cast::cast))]
 fn cast_text(text: &[u8]) -> Option<i64>
     ensures { result ≡ cast text.now }
 {
-    let (first, rest) = text.split_first()?;
-    if *first == b'-' {
-        negative(rest)
-    } else {
-        positive(text)
-    }
-}
-
-fn negative(digits: &[u8]) -> Option<i64>
-    ensures { result ≡ option_map (λ n. neg_ℤ (pos n)) (small (decimal digits.now)) }
-{
+    let (negative, digits) = without_sign(text);
     let number = small(digits)?;
-    Some(-(number as i64))
-}
-
-fn positive(digits: &[u8]) -> Option<i64>
-    ensures { result ≡ option_map pos (small (decimal digits.now)) }
-{
-    let number = small(digits)?;
-    Some(number as i64)
+    Some(with_sign(negative, number))
 }
 
 /// The number that digits spell, where it is at most 2^31.
 fn small(digits: &[u8]) -> Option<u64>
     ensures number { result ≡ small (decimal digits.now) }
-    ensures limit { IfSome result (λ n. n ≤ 2 ^ 31) }
+    ensures limit { IfSome result (λ n. n ≤ item_limit) }
 {
-    let number = decimal(digits)?;
-    if number > ITEM_LIMIT as u64 {
-        return None;
-    }
-    Some(number)
+    at_most(ITEM_LIMIT as u64, decimal(digits)?)
 }

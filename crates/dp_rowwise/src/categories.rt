@@ -1,6 +1,6 @@
 ghost use Rattle.std.proofs.Props.{props};
 ghost use Rattle.std.specs.Prelude.{◌≡◌, ◌≤◌, ◌+◌, true, false, length, map, IfOk, MatchOption, None};
-ghost use Rattle.dp_domain.specs.Domains.{Fits};
+ghost use Rattle.dp_domain.specs.Domains.{Fits, most_listed};
 ghost use Rattle.dp_domain.specs.declared.domains.Domain.TheVariants as domain;
 ghost use Rattle.dp_domain.proofs.Limits.{Fits-prop};
 ghost use Rattle.dp_law.specs.Making.{MakesOr};
@@ -57,7 +57,7 @@ impl Categories {
     pub fn len(&self) -> u32
         ensures len { result ≡ length (category_texts self.now) }
         ensures some { 1 ≤ result }
-        ensures few { result ≤ 1023 }
+        ensures few { result ≤ most_listed }
     {
         self.table.len() as u32
     }
@@ -114,7 +114,7 @@ impl Transformation for Categories {
 
 /// The place of each text.
 fn number_all(alloc: Global, table: &Table, texts: &[Text]) -> Result<Vec<u32>, NoMemory>
-    requires { length table.now ≤ 1023 }
+    requires { length table.now ≤ most_listed }
     ensures { IfOk result (λ numbers. numbers.items ≡ map (place_in table.now) texts.now) }
 {
     Ok(
@@ -127,7 +127,7 @@ fn number_all(alloc: Global, table: &Table, texts: &[Text]) -> Result<Vec<u32>, 
 
 /// The place of a text.
 fn number_of(table: &Table, text: &[u8]) -> u32
-    requires { length table.now ≤ 1023 }
+    requires { length table.now ≤ most_listed }
     ensures { result ≡ place_in table.now text.now }
 {
     table.number(text) as u32
