@@ -1,4 +1,4 @@
-ghost use Rattle.std.specs.Prelude.{◌≡◌, IfOk, take};
+ghost use Rattle.std.specs.Prelude.{◌≡◌, Ok, IfOk, take};
 
 use dp_count::{Items, NoMemory};
 use std::alloc::Global;
@@ -15,7 +15,9 @@ pub trait Duplicate: Drop {
 }
 
 impl Duplicate for u8 {
-    fn duplicate(&self, _: Global) -> Result<u8, NoMemory> {
+    fn duplicate(&self, _: Global) -> Result<u8, NoMemory>
+        ensures { result ≡ Ok self.now }
+    {
         Ok(*self)
     }
 
@@ -25,7 +27,9 @@ impl Duplicate for u8 {
 }
 
 impl Duplicate for u32 {
-    fn duplicate(&self, _: Global) -> Result<u32, NoMemory> {
+    fn duplicate(&self, _: Global) -> Result<u32, NoMemory>
+        ensures { result ≡ Ok self.now }
+    {
         Ok(*self)
     }
 
@@ -35,7 +39,9 @@ impl Duplicate for u32 {
 }
 
 impl Duplicate for i64 {
-    fn duplicate(&self, _: Global) -> Result<i64, NoMemory> {
+    fn duplicate(&self, _: Global) -> Result<i64, NoMemory>
+        ensures { result ≡ Ok self.now }
+    {
         Ok(*self)
     }
 
@@ -45,7 +51,9 @@ impl Duplicate for i64 {
 }
 
 impl Duplicate for Option<i64> {
-    fn duplicate(&self, _: Global) -> Result<Option<i64>, NoMemory> {
+    fn duplicate(&self, _: Global) -> Result<Option<i64>, NoMemory>
+        ensures { result ≡ Ok self.now }
+    {
         Ok(*self)
     }
 

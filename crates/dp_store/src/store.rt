@@ -1,4 +1,4 @@
-ghost use Rattle.std.specs.Prelude.{◌≡◌, ◌≢◌, [], ◌++◌, ◌*◌, ◌/◌, ◌^◌, ◌<◌, ◌≤◌, ℕ, length, map, filter, All, Some, Err, IfOk, OnOk, OnErr};
+ghost use Rattle.std.specs.Prelude.{◌≡◌, ◌≢◌, [], ◌++◌, ◌*◌, ◌/◌, ◌^◌, ◌<◌, ◌≤◌, ℕ, length, map, filter, All, Some, Err, IfOk, IsOk, OnOk, OnErr};
 ghost use Rattle.std.specs.Option.{ForSome};
 ghost use Rattle.std.specs.List.{range_with_len};
 ghost use Rattle.dp_count.specs.Faults.{Rose};
@@ -155,8 +155,9 @@ impl Store {
             .at(first_cell(number, self.columns) + u64::from(column))
     }
 
-    /// All records, in order.
+    /// All records, in order. Takes no memory.
     pub fn whole(&self, _: Global) -> Result<Selection, NoMemory>
+        ensures given { IsOk result }
         ensures numbers { IfOk result (λ all. all ≡ range_with_len 0 (length self.now.records)) }
         ensures records { IfOk result (λ all. selected self.now.records all ≡ self.now.records) }
         ensures selection { IfOk result (IsSelection self.now.records) }
