@@ -15,7 +15,7 @@ use dp_response::Response;
 use std::alloc::Global;
 
 /// Any measurement that a noise makes.
-#[derive(Drop)]
+#[derive(Debug, Drop)]
 pub enum AnyMeasurement {
     /// Truncated geometric noise.
     Geometric(Geometric),

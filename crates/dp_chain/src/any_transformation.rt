@@ -12,7 +12,7 @@ use dp_rowwise::{Bins, Cast, Categories, Clamp, DropNone, Filter, Impute, Select
 use std::alloc::Global;
 
 /// Any transformation that a stage makes.
-#[derive(Drop)]
+#[derive(Debug, Drop)]
 pub enum AnyTransformation {
     /// Keeps records by a text in a column.
     Filter(Filter),

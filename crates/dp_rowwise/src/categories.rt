@@ -15,7 +15,7 @@ use std::alloc::Global;
 
 /// Gives the place of each text in a list of different texts, from 0, or their number where it is not there. It takes
 /// `Texts` and gives `Cats`, both by `Symmetric`. A text is looked up by its hash, so the work is linear in the bytes.
-#[derive(Drop)]
+#[derive(Debug, Drop)]
 pub struct Categories {
     table: Table,
     ghost fits: { Fits (domain.Cats (length table + 1) None) } by { Fits-prop (domain.Cats (length table + 1) None) },

@@ -9,7 +9,7 @@ use std::alloc::Global;
 use std::marker::Model;
 
 /// Different texts with the place of each. Contracts see the list of the texts.
-#[derive(Drop)]
+#[derive(Debug, Drop)]
 pub struct Table {
     texts: IndexSet<Vec<u8>>,
 }
