@@ -46,19 +46,21 @@ mod tests {
     use super::*;
     use std::marker::Brand;
 
-    fn tick_twice<L: Ledger>(blank: Blank)
+    fn tick_twice<L: Ledger>(blank: Blank) -> Steps<L>
         requires name { blank.name ≡ L.name }
         requires parts { blank.parts ≡ L.parts }
         requires counts { 0 < L.parts }
+        ensures { result ≡ 2 }
     {
         let mut steps = Steps::<L>::new(blank);
         steps.tick();
         steps.tick();
+        steps
     }
 
     #[test]
     fn a_counter_takes_no_bytes(rt: HostRuntime) {
-        tick_twice::<Brand>(Blank::new(1));
+        let _ = tick_twice::<Brand>(Blank::new(1));
         assert_eq!(rt; std::mem::size_of::<Steps<Brand>>(), 0);
     }
 }

@@ -85,6 +85,7 @@ fn elements_and_sizes_are_as_the_domain_says(rt: HostRuntime) -> Result<(), Fail
     assert!(rt; !has(vector, &cells(alloc, &[0])?));
     assert!(rt; !has(vector, &ints(alloc, &[0, 9])?));
     assert!(rt; has(Domain::Int { lo: -3, hi: 3 }, &Value::Int(-3)));
+    assert!(rt; has(Domain::Cat { n: 2 }, &Value::Cat(1)));
     assert!(rt; !has(Domain::Cat { n: 2 }, &Value::Cat(2)));
     Ok(())
 }

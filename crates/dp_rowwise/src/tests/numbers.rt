@@ -184,6 +184,24 @@ fn numbers_are_clamped_and_put_into_bins(rt: HostRuntime) -> Result<(), Fault> {
 }
 
 #[test]
+fn numbers_of_no_size_are_clamped_and_put_into_bins(rt: HostRuntime) -> Result<(), Fault> {
+    let clamped = applied(
+        rt.alloc(),
+        Clamp::new(UNSIZED, Metric::Symmetric, 1, 3)?,
+        &ints_of(rt.alloc(), &[0, 5, 2])?,
+    )?;
+    assert!(rt; is_ints(&clamped, &[1, 3, 2]));
+    let edges = copy_edges(rt.alloc(), &[2])?;
+    let places = applied(
+        rt.alloc(),
+        Bins::new(UNSIZED, Metric::Symmetric, edges)?,
+        &clamped,
+    )?;
+    assert!(rt; is_cats(&places, &[0, 1, 1]));
+    Ok(())
+}
+
+#[test]
 fn no_numbers_stay_none(rt: HostRuntime) -> Result<(), Fault> {
     let numbers = optional_of(rt.alloc(), &[])?;
     let imputed = applied(
