@@ -4,9 +4,10 @@ mod plans;
 mod queries;
 mod ranges;
 
-use crate::{PipelineFault, read_pipeline};
+use crate::{PipelineFault, QueryFault, read_pipeline};
 use dp_count::NoMemory;
 use std::alloc::Global;
+use std::test::Fail;
 
 /// The number with which a text is refused, 0 where it is accepted.
 fn refusal(alloc: Global, text: &[u8]) -> Result<u8, NoMemory> {
@@ -39,4 +40,22 @@ fn repeated(alloc: Global, text: &str, times: usize) -> Result<String, NoMemory>
         all.push_str(text)?;
     }
     Ok(all)
+}
+
+#[test]
+fn faults_are_named(rt: HostRuntime) -> Result<(), Fail> {
+    let alloc = rt.alloc();
+    for (fault, name) in [
+        (PipelineFault::Refused(6), "Refused"),
+        (PipelineFault::NoMemory, "NoMemory"),
+    ] {
+        assert_eq!(rt; format!(in alloc; "{fault}")?.as_str(), name);
+    }
+    for (fault, name) in [
+        (QueryFault::Malformed, "Malformed"),
+        (QueryFault::NoMemory, "NoMemory"),
+    ] {
+        assert_eq!(rt; format!(in alloc; "{fault}")?.as_str(), name);
+    }
+    Ok(())
 }

@@ -6,6 +6,7 @@ mod read_faults;
 mod release;
 mod sample;
 mod sessions;
+mod verdicts;
 
 use crate::laws::count_law;
 use crate::{end_without_memory, run_words};
@@ -40,8 +41,8 @@ const NO_FAILURE: Calls = Calls {
     whole: false,
 };
 
-/// How many bytes an output in memory has room for.
-const ROOM: usize = 1024;
+/// How many bytes an output in memory has room for: 32 for each of the most query lines that a run answers.
+const ROOM: usize = 32 << 20;
 
 /// How many bytes a read and a write of a run's objects take at most.
 #[derive(Clone, Copy, Drop)]

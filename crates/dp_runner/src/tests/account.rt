@@ -4,7 +4,7 @@ use std::process::Abort;
 use std::test::Fail;
 
 /// The words of an account of the pipeline `data` and the queries `draws`.
-const ACCOUNT: [&str; 3] = ["account", "data", "draws"];
+pub(super) const ACCOUNT: [&str; 3] = ["account", "data", "draws"];
 
 /// A pipeline with an odometer at its root.
 pub(super) const ODOMETER: &[u8] =
@@ -61,7 +61,7 @@ pub(super) fn shows(rt: &impl Abort, shown: &Shown, status: u8, out: &[u8], err:
 }
 
 /// That an account of these query lines writes these lines and ends with 0.
-fn accounts(
+pub(super) fn accounts(
     rt: &(impl Abort + AllocGlobal),
     pipeline: &[u8],
     queries: &[&str],

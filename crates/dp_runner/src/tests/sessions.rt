@@ -80,7 +80,7 @@ fn replay_with(rt: &impl AllocGlobal, texts: Texts<'_>, calls: Calls) -> Result<
 }
 
 /// That a replay writes these lines and ends with 0.
-fn replays(
+pub(super) fn replays(
     rt: &(impl Abort + AllocGlobal),
     pipeline: &[u8],
     data: &[u8],
@@ -101,7 +101,7 @@ fn replays(
 }
 
 /// A query of a release at the root, by its stages and its noise.
-fn ask(rt: &impl AllocGlobal, stages: &str) -> Result<String, Fail> {
+pub(super) fn ask(rt: &impl AllocGlobal, stages: &str) -> Result<String, Fail> {
     Ok(format!(in rt.alloc(); "{{\"node\":0,\"ask\":[{stages}]}}")?)
 }
 
