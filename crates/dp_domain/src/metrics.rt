@@ -12,6 +12,6 @@ pub enum Metric {
     Absolute,
     /// 0 for equal categories and 1 for different ones.
     Discrete,
-    /// The sum of the absolute differences of two vectors' cells.
+    /// The sum of the absolute differences of the cells of two vectors of one length.
     L1,
 }

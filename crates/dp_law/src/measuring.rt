@@ -14,8 +14,8 @@ use std::alloc::Global;
 
 /// A private measurement: a function from a value and draws to an answer, with a privacy map, which says by how many
 /// units of loss the numbers of draw lists of one answer can differ on values that are so far apart. A unit is one
-/// factor of the measurement's ratio. Its law says that the input domain fits, that shape and answers keep their
-/// limits, and that the privacy map holds.
+/// factor of the measurement's ratio. Its law says that the input domain fits and its metric is used with it, that
+/// shape and answers keep their limits, and that the privacy map holds.
 pub trait Measurement {
     ghost mechanism: { Self → Mechanism };
 

@@ -10,7 +10,8 @@ use std::alloc::Global;
 
 /// A stable transformation: a function from the values of a domain to those of another, with a metric on each, and a
 /// stability map, which says how far apart results are of values that are so far apart. Its law says that both domains
-/// fit, that the function lands in the output domain, and that the stability map holds.
+/// fit, that the output metric is used with the output domain where the input metric is with the input domain and
+/// nowhere else, that the function lands in the output domain, and that the stability map holds.
 pub trait Transformation {
     ghost mapping: { Self → Mapping };
 

@@ -82,7 +82,7 @@ impl Trail {
         link.live = live;
     }
 
-    /// The link at a place. It counts one step, and there is no other way to read a link.
+    /// The link at a place. It counts one step, and no other call gives a link.
     pub fn at<L: Ledger>(&self, place: u32, steps: &mut Steps<L>) -> Link
         requires { place < length self.now.links }
         ensures link { slice_get self.now.links place ≡ Some result }

@@ -51,8 +51,8 @@ impl Queries {
         })
     }
 
-    /// Accepts the query of a line, or answers its refusal. After want of memory the queries stand at no lines. A node
-    /// on the way to the root is one step.
+    /// Accepts the query of a line, or answers its refusal. After want of memory the queries stand at no lines. It takes
+    /// at most one step for each node on the way to the root.
     pub(crate) fn settle<L: Ledger>(
         &mut self,
         alloc: Global,

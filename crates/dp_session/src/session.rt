@@ -87,7 +87,7 @@ impl Session {
 
     /// Answers the next query, of which the line is given without its line feed, and writes its line. A refused query
     /// has its line too. The draws of a release are taken before its line is written. Fewer than 2^20 queries were
-    /// answered before. A node on the way to the root is one step.
+    /// answered before. It takes at most one step for each node on the way to the root.
     ///
     /// `Ended` comes exactly where an earlier call answered a fault or the last line was asked for. `DrawFault` comes
     /// exactly where the source fails in taking the draws of an accepted ask; nothing is written then. `WriteFault`

@@ -108,8 +108,8 @@ impl Tree {
 
     /// Whether a query may be addressed to a node. `NoNode` comes exactly where no node has the number. `Frozen` comes
     /// exactly where the tree is one of `new` and an accepted query with a number greater than the node's was addressed
-    /// to a node above it: `ancestor` is the nearest such node, and `later` the last query there. Each node on the way
-    /// to the root is one step.
+    /// to a node above it: `ancestor` is the nearest such node, and `later` the last query there. It takes at most
+    /// one step for each node on the way to the root, the node and the root with them.
     pub fn find<L: Ledger>(&self, node: u64, steps: &mut Steps<L>) -> Result<(), FindFault>
         ensures told { result_err result ≡ fault_in self.now node }
         ensures verdict { FindsBy self.now node (result_err result) }
