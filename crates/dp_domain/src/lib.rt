@@ -3,8 +3,8 @@
 //! every type of elements.
 #![tactic(auto)]
 
-mod copies;
 mod domains;
+mod duplicate;
 mod edges;
 pub mod laws;
 mod lists;
@@ -12,8 +12,8 @@ mod metrics;
 mod ranges;
 mod values;
 
-pub use copies::Duplicate;
 pub use domains::{Domain, MOST_LISTED, few_and_one};
+pub use duplicate::Duplicate;
 pub use edges::{are_edges, edges_at_most};
 pub use lists::{Cats, Cells, Ints, Items, OptInts, Record, Rows, Text, Texts};
 pub use metrics::Metric;

@@ -1,6 +1,6 @@
 ghost use Rattle.std.specs.Prelude.{◌≡◌, IfOk};
 
-use crate::copies::Duplicate;
+use crate::duplicate::Duplicate;
 use crate::lists::{Cats, Cells, Ints, OptInts, Rows, Texts};
 use dp_count::NoMemory;
 use std::alloc::Global;

@@ -1,7 +1,7 @@
 -- What is seen of the draw sources.
 use Rattle.std.specs.Prelude.{ℕ, List, drop}
-use Rattle.dp_draws.specs.declared.replaying.Replay.{Replay}
-use Rattle.dp_draws.specs.declared.refusing.NoDraws.{NoDraws}
+use Rattle.dp_draws.specs.declared.replay.Replay.{Replay}
+use Rattle.dp_draws.specs.declared.no_draws.NoDraws.{NoDraws}
 use Rattle.dp_draws.specs.declared.chacha_draws.ChaChaDraws.{ChaChaDraws}
 use Rattle.dp_draws.specs.ChaChaDraws.{state_of}
 

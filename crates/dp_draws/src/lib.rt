@@ -5,17 +5,17 @@
 
 mod chacha_draws;
 mod fail_at;
+mod no_draws;
 mod reading;
-mod refusing;
-mod replaying;
+mod replay;
 mod source;
 mod zeros;
 
 pub use chacha_draws::ChaChaDraws;
 pub use fail_at::FailAt;
+pub use no_draws::NoDraws;
 pub use reading::read_draws;
-pub use refusing::NoDraws;
-pub use replaying::Replay;
+pub use replay::Replay;
 pub use source::Draws;
 pub use zeros::Zeros;
 

@@ -1,6 +1,6 @@
 -- What is read of a cell: its numbers.
 use Rattle.dp_geometric.specs.OneCell.{CellNumbers}
-use Rattle.dp_geometric.specs.declared.cells.Cell.{Cell}
+use Rattle.dp_geometric.specs.declared.cell.Cell.{Cell}
 
 -- the numbers of a cell
 abbrev pub cell_of : Cell → CellNumbers

@@ -14,7 +14,7 @@ ghost use Rattle.dp_geometric.specs.OneCell.{width, cell_shape};
 ghost use Rattle.dp_geometric.specs.Geometric.{cells_shape, cells_out, add_noise, is_numeric, kind_refusal, geometric_from};
 ghost use Rattle.dp_geometric.specs.Parts.{cell_of};
 
-use crate::cells::Cell;
+use crate::cell::Cell;
 use dp_count::{Failed, NoMemory, Shape};
 use dp_domain::{Cells, Domain, Metric, Value, is_narrow_range};
 use dp_draws::Draws;

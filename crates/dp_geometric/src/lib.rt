@@ -3,12 +3,12 @@
 //! that are at most e apart the two numbers of an answer differ by a factor of at most (high / low)^e.
 #![tactic(auto)]
 
-mod cells;
+mod cell;
 mod geometric;
 pub mod laws;
 mod runs;
 #[cfg(test)]
 mod small;
 
-pub use cells::Cell;
+pub use cell::Cell;
 pub use geometric::Geometric;

@@ -6,15 +6,15 @@
 #![tactic(auto)]
 
 mod faults;
-mod measuring;
+mod measurement;
 mod pieces;
 mod refusals;
 mod sizes;
-mod transforming;
+mod transformation;
 
 pub use faults::ReleaseFault;
-pub use measuring::Measurement;
+pub use measurement::Measurement;
 pub use pieces::{Answer, Piece};
 pub use refusals::{MakeFault, Refused};
 pub use sizes::{is_list_metric, list_metric};
-pub use transforming::Transformation;
+pub use transformation::Transformation;

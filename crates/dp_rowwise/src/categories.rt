@@ -6,7 +6,7 @@ ghost use Rattle.dp_domain.proofs.Limits.{Fits-prop};
 ghost use Rattle.dp_law.specs.Making.{MakesOr};
 ghost use Rattle.dp_rowwise.specs.Categories.{place_in, are_different, categories_from};
 
-use crate::tables::Table;
+use crate::table::Table;
 use dp_count::NoMemory;
 use dp_domain::{Cats, Domain, Metric, Text, Texts, Value, few_and_one};
 use dp_law::{MakeFault, Transformation};

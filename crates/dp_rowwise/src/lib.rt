@@ -12,7 +12,7 @@ mod impute;
 mod lists;
 mod persons;
 mod select;
-mod tables;
+mod table;
 mod truncate;
 
 pub use bins::Bins;

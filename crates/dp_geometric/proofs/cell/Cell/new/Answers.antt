@@ -1,7 +1,7 @@
 use Rattle.std.proofs.Common.{w64}
 use Rattle.std.proofs.lemmas.Int.{to_z-of_z}
 use Rattle.dp_geometric.specs.CellProof.{cell-counts, cell-private}
-use Rattle.dp_geometric.proofs.cells.Cell.new.Goals as goal
+use Rattle.dp_geometric.proofs.cell.Cell.new.Goals as goal
 
 pub returns-clause-counts : goal.returns-clause-counts
 returns-clause-counts c =

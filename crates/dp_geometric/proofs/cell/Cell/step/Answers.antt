@@ -5,7 +5,7 @@ use Rattle.dp_geometric.proofs.Settling.{answered}
 use Rattle.dp_geometric.proofs.Stepping.{first-fails, first-last, run-fails, run-answers}
 use Rattle.dp_geometric.specs.OneCell.{cell_out}
 use Rattle.dp_geometric.specs.Parts.{cell_of}
-use Rattle.dp_geometric.proofs.cells.Cell.step.Goals as goal
+use Rattle.dp_geometric.proofs.cell.Cell.step.Goals as goal
 
 pub returns-in_err-first-clause-answer : goal.returns-in_err-first-clause-answer
 returns-in_err-first-clause-answer g c =

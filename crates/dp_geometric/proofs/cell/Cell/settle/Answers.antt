@@ -1,5 +1,5 @@
 use Rattle.dp_geometric.proofs.Settling.{settled}
-use Rattle.dp_geometric.proofs.cells.Cell.settle.Goals as goal
+use Rattle.dp_geometric.proofs.cell.Cell.settle.Goals as goal
 
 pub returns : goal.returns
 returns c =

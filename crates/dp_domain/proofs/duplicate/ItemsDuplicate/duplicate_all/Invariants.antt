@@ -1,5 +1,5 @@
 use Rattle.std.proofs.Common.{◌≡◌, take}
-use Rattle.dp_domain.proofs.copies.ItemsDuplicate.duplicate_all.Given as goal
+use Rattle.dp_domain.proofs.duplicate.ItemsDuplicate.duplicate_all.Given as goal
 
 abbrev pub invariant-loop-item : goal.invariant-loop-item
 invariant-loop-item g l = l.copies.items ≡ take l.item-index l.items
