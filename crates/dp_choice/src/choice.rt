@@ -24,7 +24,7 @@ use dp_count::{Failed, NoMemory, Shape};
 use dp_domain::{Cells, Domain, Metric, Value, clamped};
 use dp_draws::Draws;
 use dp_law::{Answer, MakeFault, Measurement, Piece, ReleaseFault};
-use dp_num::{MOST_UNITS, Past, Ratio};
+use dp_num::{Past, Ratio, add_units, mul_units};
 use std::alloc::Global;
 
 /// Weighted choice of a vector's cell, for the ratio p/q and u units. A cell's score is how far its number is above
@@ -259,13 +259,7 @@ impl Measurement for Choice {
         if d == 0 {
             return Ok(0);
         }
-        let Some(steps) = self.u.checked_mul(2 * d) else {
-            return Err(Past);
-        };
-        if steps >= MOST_UNITS {
-            return Err(Past);
-        }
-        Ok(steps + 1)
+        add_units(mul_units(2 * self.u, d)?, 1)
     }
 
     fn release<D: Draws>(
