@@ -11,8 +11,7 @@ use Rattle.dp_domain.specs.declared.values.Value.TheVariants as value
 use Rattle.dp_law.specs.declared.refusals.Refused.{Refused}
 use Rattle.dp_law.specs.declared.refusals.Refused.TheVariants as refused
 use Rattle.dp_law.specs.Mapping.{Mapping}
-use Rattle.dp_law.specs.Making.{tested}
-use Rattle.dp_aggregate.specs.OneNumber.{is_absolute}
+use Rattle.dp_law.specs.Making.{tested, is_absolute}
 
 -- how many edges are at most the number, as a category
 abbrev pub at_least_value : List ℤ → Value → Value

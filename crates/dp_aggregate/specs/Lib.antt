@@ -5,7 +5,6 @@ pub mod CountProof
 pub mod ExchangeProof
 pub mod Histogram
 pub mod HistogramProof
-pub mod OneNumber
 pub mod Quantise
 pub mod QuantiseProof
 pub mod Resize

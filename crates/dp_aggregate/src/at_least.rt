@@ -6,7 +6,6 @@ ghost use Rattle.dp_law.specs.Making.{Makes};
 ghost use Rattle.dp_domain.specs.declared.domains.Domain.TheVariants as domain;
 ghost use Rattle.dp_aggregate.specs.AtLeast.{at_least_from};
 
-use crate::one_number::is_absolute;
 use dp_count::NoMemory;
 use dp_domain::{Domain, Ints, Metric, NUMBER_LIMIT, Value, are_edges, edges_at_most};
 use dp_law::{Refused, Transformation};
@@ -36,7 +35,7 @@ impl AtLeast {
         let Domain::Int { lo, hi } = domain else {
             return Err(Refused::Kind);
         };
-        if !is_absolute(metric) {
+        if metric != Metric::Absolute {
             return Err(Refused::Metric);
         }
         if !are_edges(&NUMBER_LIMIT, edges.as_slice()) {

@@ -32,7 +32,7 @@ impl Count {
         if !has_lists(&domain) {
             return Err(Refused::Kind);
         }
-        if !has_unsized_lists(&domain) || !matches!(metric, Metric::Symmetric) {
+        if !has_unsized_lists(&domain) || metric != Metric::Symmetric {
             return Err(Refused::Metric);
         }
         Ok(Count { lists: domain })

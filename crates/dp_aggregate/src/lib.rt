@@ -6,7 +6,6 @@ mod at_least;
 mod count;
 mod histogram;
 pub mod laws;
-mod one_number;
 mod quantise;
 mod resize;
 mod sum;

@@ -5,7 +5,6 @@ ghost use Rattle.dp_law.specs.Making.{Makes};
 ghost use Rattle.dp_domain.specs.declared.domains.Domain.TheVariants as domain;
 ghost use Rattle.dp_aggregate.specs.Quantise.{quantised, quantise_from, is_step};
 
-use crate::one_number::is_absolute;
 use dp_count::NoMemory;
 use dp_domain::{Domain, Metric, Value};
 use dp_law::{Refused, Transformation};
@@ -36,7 +35,7 @@ impl Quantise {
         let Domain::Int { lo, hi } = domain else {
             return Err(Refused::Kind);
         };
-        if !is_absolute(metric) {
+        if metric != Metric::Absolute {
             return Err(Refused::Metric);
         }
         if !is_step(step) {

@@ -42,7 +42,7 @@ impl Resize {
         else {
             return Err(Refused::Kind);
         };
-        if given.is_some() || !matches!(metric, Metric::Symmetric) {
+        if given.is_some() || metric != Metric::Symmetric {
             return Err(Refused::Metric);
         }
         if !can_resize(&lo, &hi, size, &fill) {

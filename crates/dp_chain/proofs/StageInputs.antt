@@ -7,10 +7,9 @@ use Rattle.dp_domain.specs.declared.metrics.Metric.{Metric}
 use Rattle.dp_domain.specs.declared.metrics.Metric.TheVariants as metrics
 use Rattle.dp_law.specs.declared.refusals.Refused.{Refused}
 use Rattle.dp_law.specs.declared.refusals.Refused.TheVariants as refused
-use Rattle.dp_law.specs.Making.{tested, is_symmetric, is_change_one, list_metric, is_list_metric}
+use Rattle.dp_law.specs.Making.{tested, is_absolute, is_symmetric, is_change_one, list_metric, is_list_metric}
 use Rattle.dp_law.specs.Mapping.{Mapping}
 use Rattle.dp_rowwise.specs.Filter.{compares_rows}
-use Rattle.dp_aggregate.specs.OneNumber.{is_absolute}
 use Rattle.dp_aggregate.specs.Count.{has_lists, has_unsized_lists, count_mapping}
 use Rattle.dp_chain.specs.Stages.{stage_on}
 use Rattle.dp_chain.specs.declared.stage.Stage.{Stage}

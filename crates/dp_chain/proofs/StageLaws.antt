@@ -13,7 +13,7 @@ use Rattle.dp_domain.specs.Ranges.{is_range, is_within}
 use Rattle.dp_domain.specs.Edges.{are_edges, is_rising}
 use Rattle.dp_law.specs.declared.refusals.Refused.{Refused}
 use Rattle.dp_law.specs.declared.refusals.Refused.TheVariants as refused
-use Rattle.dp_law.specs.Making.{tested, is_symmetric, is_list_metric}
+use Rattle.dp_law.specs.Making.{tested, is_absolute, is_symmetric, is_list_metric}
 use Rattle.dp_law.specs.Mapping.{Mapping, IsStable}
 use Rattle.dp_rowwise.specs.Categories.{are_different}
 use Rattle.dp_rowwise.specs.Filter.{compares_rows}
@@ -28,7 +28,6 @@ use Rattle.dp_rowwise.specs.ClampProof.{clamp_law}
 use Rattle.dp_rowwise.specs.BinsProof.{bins_law}
 use Rattle.dp_rowwise.specs.TruncateProof.{truncate_law}
 use Rattle.dp_aggregate.specs.Count.{has_lists, has_unsized_lists, count_mapping}
-use Rattle.dp_aggregate.specs.OneNumber.{is_absolute}
 use Rattle.dp_aggregate.specs.ResizeProof.{resize_law}
 use Rattle.dp_aggregate.specs.CountProof.{count_law}
 use Rattle.dp_aggregate.specs.SumProof.{sum_law}

@@ -11,7 +11,7 @@ use Rattle.dp_law.specs.declared.pieces.Piece.{Piece}
 use Rattle.dp_law.specs.declared.pieces.Piece.TheVariants as piece
 use Rattle.dp_law.specs.declared.refusals.Refused.{Refused}
 use Rattle.dp_law.specs.declared.refusals.Refused.TheVariants as refused
-use Rattle.dp_law.specs.Making.{with_powers}
+use Rattle.dp_law.specs.Making.{with_powers, is_l1}
 use Rattle.dp_law.specs.Mechanism.{Mechanism}
 use Rattle.dp_choice.specs.Weights.{ChoiceNumbers, weights, greatest, first_weight, all_draws, weight_table, is_score_range, weights_fit}
 use Rattle.dp_choice.specs.Shares.{chosen_by}
@@ -57,8 +57,8 @@ choice_if ratio u c = if is_choice ratio c then Ok (choice ratio u c) else Err r
 
 -- what weighted choice is on a domain and a metric
 abbrev pub choice_from : Fraction → ℕ → ℤ → ℤ → Domain → Metric → Result Mechanism Refused
-choice_from ratio u floor top (domain.IntVec len least most) metrics.L1 =
-    with_powers (powers ratio.p ratio.q u) (λ both. choice_if ratio u (record {
+choice_from ratio u floor top (domain.IntVec len least most) metric = if is_l1 metric
+    then with_powers (powers ratio.p ratio.q u) (λ both. choice_if ratio u (record {
       len = len;
       least = least;
       most = most;
@@ -67,5 +67,5 @@ choice_from ratio u floor top (domain.IntVec len least most) metrics.L1 =
       low = both.0;
       high = both.1;
     }))
-choice_from ratio u floor top (domain.IntVec len least most) metric = Err refused.Metric
+    else Err refused.Metric
 choice_from ratio u floor top _ metric = Err refused.Kind

@@ -92,9 +92,9 @@ impl Choice {
         let Domain::IntVec { len, lo, hi } = domain else {
             return Err(MakeFault::Kind);
         };
-        let Metric::L1 = metric else {
+        if metric != Metric::L1 {
             return Err(MakeFault::Metric);
-        };
+        }
         let Ok((low, high)) = ratio.powers(u) else {
             return Err(MakeFault::Bound);
         };

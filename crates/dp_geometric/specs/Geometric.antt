@@ -13,7 +13,7 @@ use Rattle.dp_law.specs.declared.pieces.Piece.{Piece}
 use Rattle.dp_law.specs.declared.pieces.Piece.TheVariants as piece
 use Rattle.dp_law.specs.declared.refusals.Refused.{Refused}
 use Rattle.dp_law.specs.declared.refusals.Refused.TheVariants as refused
-use Rattle.dp_law.specs.Making.{with_powers}
+use Rattle.dp_law.specs.Making.{with_powers, is_absolute, is_l1}
 use Rattle.dp_law.specs.Mechanism.{Mechanism}
 use Rattle.dp_geometric.specs.OneCell.{CellNumbers, cell_shape, cell_out}
 
@@ -72,10 +72,8 @@ geometric_if input ratio u cell = if is_narrow_range cell.lo cell.hi
 
 -- the refusal by the domain's kind and the metric, if there is one
 abbrev pub kind_refusal : Domain → Metric → Option Refused
-kind_refusal (domain.Int least most) metrics.Absolute = None
-kind_refusal (domain.Int least most) metric = Some refused.Metric
-kind_refusal (domain.IntVec len least most) metrics.L1 = None
-kind_refusal (domain.IntVec len least most) metric = Some refused.Metric
+kind_refusal (domain.Int least most) metric = if is_absolute metric then None else Some refused.Metric
+kind_refusal (domain.IntVec len least most) metric = if is_l1 metric then None else Some refused.Metric
 kind_refusal _ metric = Some refused.Kind
 
 -- the kind and the metric are not refused, and the powers are there

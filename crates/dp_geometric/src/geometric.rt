@@ -139,11 +139,15 @@ fn kind_refusal(domain: Domain, metric: Metric) -> Option<Refused>
     ensures refusal { result ≡ kind_refusal domain metric }
     ensures numeric { result ≡ None → is_numeric domain ≡ true }
 {
-    match (domain, metric) {
-        (Domain::Int { .. }, Metric::Absolute) | (Domain::IntVec { .. }, Metric::L1) => None,
-        (Domain::Int { .. } | Domain::IntVec { .. }, _) => Some(Refused::Metric),
-        _ => Some(Refused::Kind),
+    let own = match domain {
+        Domain::Int { .. } => Metric::Absolute,
+        Domain::IntVec { .. } => Metric::L1,
+        _ => return Some(Refused::Kind),
+    };
+    if metric != own {
+        return Some(Refused::Metric);
     }
+    None
 }
 
 /// How many draws one cell takes.

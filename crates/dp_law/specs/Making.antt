@@ -28,6 +28,21 @@ abbrev pub is_change_one : Metric → Bool
 is_change_one metrics.ChangeOne = true
 is_change_one _ = false
 
+-- the metric is Absolute
+abbrev pub is_absolute : Metric → Bool
+is_absolute metrics.Absolute = true
+is_absolute _ = false
+
+-- the metric is Discrete
+abbrev pub is_discrete : Metric → Bool
+is_discrete metrics.Discrete = true
+is_discrete _ = false
+
+-- the metric is L1
+abbrev pub is_l1 : Metric → Bool
+is_l1 metrics.L1 = true
+is_l1 _ = false
+
 -- a list without a size is compared by Symmetric, one with a size by ChangeOne
 abbrev pub list_metric : Option ℕ → Metric
 list_metric None = metrics.Symmetric

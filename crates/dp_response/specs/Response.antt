@@ -11,7 +11,7 @@ use Rattle.dp_law.specs.declared.pieces.Piece.{Piece}
 use Rattle.dp_law.specs.declared.pieces.Piece.TheVariants as piece
 use Rattle.dp_law.specs.declared.refusals.Refused.{Refused}
 use Rattle.dp_law.specs.declared.refusals.Refused.TheVariants as refused
-use Rattle.dp_law.specs.Making.{with_powers}
+use Rattle.dp_law.specs.Making.{with_powers, is_discrete}
 use Rattle.dp_law.specs.Mechanism.{Mechanism}
 
 -- how many categories there are, and the two numbers of the ratio low / high of another reply to the true one
@@ -60,7 +60,8 @@ response_if ratio u c = if nat_le (draw_bound c) (2 ^ 62) then Ok (response rati
 
 -- what randomised response is on a domain and a metric: low and high are p and q to the power u
 abbrev pub response_from : Fraction → ℕ → Domain → Metric → Result Mechanism Refused
-response_from ratio u (domain.Cat n) metrics.Discrete = with_powers (powers ratio.p ratio.q u)
+response_from ratio u (domain.Cat n) metric = if is_discrete metric
+    then with_powers (powers ratio.p ratio.q u)
     (λ both. response_if ratio u (record { n = n; low = both.0; high = both.1 }))
-response_from ratio u (domain.Cat n) metric = Err refused.Metric
+    else Err refused.Metric
 response_from ratio u _ metric = Err refused.Kind

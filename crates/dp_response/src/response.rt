@@ -53,9 +53,9 @@ impl Response {
         let Domain::Cat { n } = domain else {
             return Err(Refused::Kind);
         };
-        let Metric::Discrete = metric else {
+        if metric != Metric::Discrete {
             return Err(Refused::Metric);
-        };
+        }
         let Ok((low, high)) = ratio.powers(u) else {
             return Err(Refused::Bound);
         };

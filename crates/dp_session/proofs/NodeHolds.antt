@@ -18,11 +18,10 @@ use Rattle.dp_domain.specs.declared.values.Value.{Value}
 use Rattle.dp_domain.specs.Domains.{Fits, Has}
 use Rattle.dp_law.specs.declared.refusals.Refused.{Refused}
 use Rattle.dp_law.specs.declared.refusals.Refused.TheVariants as refused
-use Rattle.dp_law.specs.Making.{tested, is_symmetric, is_list_metric}
+use Rattle.dp_law.specs.Making.{tested, is_absolute, is_symmetric, is_list_metric}
 use Rattle.dp_law.specs.Mapping.{Mapping}
 use Rattle.dp_rowwise.specs.Filter.{compares_rows}
 use Rattle.dp_aggregate.specs.Count.{has_lists, has_unsized_lists, count_mapping}
-use Rattle.dp_aggregate.specs.OneNumber.{is_absolute}
 use Rattle.dp_pipeline.specs.Places.{PlaceValue}
 use Rattle.dp_pipeline.specs.declared.content.Content.{Content}
 use Rattle.dp_store.specs.Taken.{IsOfColumns}
