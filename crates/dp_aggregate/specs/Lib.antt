@@ -2,7 +2,6 @@ pub mod AtLeast
 pub mod AtLeastProof
 pub mod Count
 pub mod CountProof
-pub mod ExchangeProof
 pub mod Histogram
 pub mod HistogramProof
 pub mod Quantise

@@ -22,7 +22,7 @@ use Rattle.dp_domain.proofs.Distance.{diff-symmetric, diff-triangle, diff-order,
 use Rattle.dp_law.specs.Mapping.{IsStable}
 use Rattle.dp_law.proofs.Caps.{capped-same, capped-le}
 use Rattle.dp_law.proofs.Suits.{both-hold}
-use Rattle.dp_aggregate.specs.ExchangeProof.{exchange}
+use Rattle.dp_domain.proofs.Exchange.{exchange}
 use Rattle.dp_aggregate.specs.Resize.{put_in, in_order, resized, resize_value, can_resize, resize_mapping}
 use Rattle.dp_aggregate.specs.RisingOrderProof.{put-at, in_order-permutes, in_order-same, length-in_order}
 

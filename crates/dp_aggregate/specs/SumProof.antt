@@ -1,12 +1,12 @@
 -- Adding is stable.
-use Rattle.std.proofs.Common.{◌≡◌, ℕ, zero, suc, ◌*◌, ◌^◌, ◌≤◌, max, ℤ, pos, negsuc, neg_ℤ, ◌+ℤ◌, ◌-ℤ◌, ◌*ℤ◌, ◌≤ℤ◌, List, [], ◌∷◌, length, fold, Option, Some, None, subst, arith}
-use Rattle.std.specs.Prelude.{nat_abs, All}
+use Rattle.std.proofs.Common.{◌≡◌, ℕ, suc, ◌*◌, ◌^◌, ◌≤◌, max, ℤ, pos, negsuc, neg_ℤ, ◌-ℤ◌, ◌*ℤ◌, ◌≤ℤ◌, length, Option, Some, None, subst, arith}
+use Rattle.std.specs.Prelude.{nat_abs}
 use Rattle.std.specs.Int.{int_min, int_max}
 use Rattle.std.specs.Ordering.{int_eq}
-use Rattle.std.proofs.Math.IntN.{suc_ℤ-*ℤ, zero-*ℤ}
-use Rattle.std.proofs.Math.Nat.{mul-le-mul, mul-le-mul_left, mul-le-mul_right}
+use Rattle.std.proofs.Math.Nat.{mul-le-mul, mul-le-mul_right}
 use Rattle.std.proofs.lemmas.Int.{ints, clamps}
-use Rattle.std.proofs.lemmas.List.Elements.{All-head, All-tail, All-weaker}
+use Rattle.std.proofs.lemmas.List.Elements.{All-weaker}
+use Rattle.dp_count.proofs.SignedProducts.{times-order, times-rise, times-fall}
 use Rattle.dp_domain.specs.declared.domains.Domain.TheVariants as domain
 use Rattle.dp_domain.specs.declared.metrics.Metric.TheVariants as metrics
 use Rattle.dp_domain.specs.declared.values.Value.{Value}
@@ -16,6 +16,7 @@ use Rattle.dp_domain.specs.Domains.{Fits, Has, IsBetween}
 use Rattle.dp_domain.specs.Metrics.{Within}
 use Rattle.dp_domain.specs.Sums.{int_sum}
 use Rattle.dp_domain.proofs.Equality.{int_eq-decides}
+use Rattle.dp_domain.proofs.ListSums.{sum-between}
 use Rattle.dp_domain.proofs.WeightedSums.{sums-apart, even-sums-apart}
 use Rattle.dp_law.specs.Making.{list_metric}
 use Rattle.dp_law.specs.Mapping.{IsStable}
@@ -23,61 +24,10 @@ use Rattle.dp_law.proofs.Caps.{capped-same, capped-le}
 use Rattle.dp_law.proofs.Suits.{both-hold, ints-suit}
 use Rattle.dp_aggregate.specs.Sum.{IsItem, sum_value, sum_low, sum_high, sum_factor, sum_mapping}
 
--- a number of times the smaller is at most as many times the greater
-times-order : (n : ℕ) (z w : ℤ) → z ≤ℤ w → (pos n *ℤ z) ≤ℤ (pos n *ℤ w)
-times-order n (pos a) (pos b) h = let k = mul-le-mul_left {m = a} {n = b} n (omega (arith, ints)) in omega (arith, ints)
-times-order n (pos a) (negsuc b) h = absurd (omega (arith, ints))
-times-order n (negsuc a) (pos b) h = omega (arith, ints)
-times-order n (negsuc a) (negsuc b) h = let k = mul-le-mul_left {m = suc b} {n = suc a} n (omega (arith, ints)) in omega (arith, ints)
-
--- more times a number that is not below 0 is more
-times-rise : (n m : ℕ) (z : ℤ) → n ≤ m → pos 0 ≤ℤ z → (pos n *ℤ z) ≤ℤ (pos m *ℤ z)
-times-rise n m (pos a) h k = let l = mul-le-mul_right {m = n} {n = m} a h in omega (arith, ints)
-times-rise n m (negsuc a) h k = absurd (omega (arith, ints))
-
-times-fall : (n m : ℕ) (z : ℤ) → n ≤ m → z ≤ℤ pos 0 → (pos m *ℤ z) ≤ℤ (pos n *ℤ z)
-times-fall n m (pos zero) h k = omega (arith, ints)
-times-fall n m (pos (suc a)) h k = absurd (omega (arith, ints))
-times-fall n m (negsuc a) h k = let l = mul-le-mul_right {m = n} {n = m} (suc a) h in omega (arith, ints)
-
 -- up to 2 ^ 30 times a number of a list is from -2 ^ 61 to 2 ^ 61
 times-limits : (n : ℕ) (z : ℤ) → n ≤ 2 ^ 30 → IsItem z → IsBetween (neg_ℤ (pos (2 ^ 61))) (pos (2 ^ 61)) (pos n *ℤ z)
 times-limits n (pos a) h k = let l = mul-le-mul {n₁ = n} {m₁ = a} {n₂ = 2 ^ 30} {m₂ = 2 ^ 31} h (omega (arith, ints, k.1)) in (omega (arith, ints), omega (arith, ints))
 times-limits n (negsuc a) h k = let l = mul-le-mul {n₁ = n} {m₁ = suc a} {n₂ = 2 ^ 30} {m₂ = 2 ^ 31} h (omega (arith, ints, k.0)) in (omega (arith, ints), omega (arith, ints))
-
-low-step : (a x lo p q s : ℤ) → q ≡ p +ℤ lo → lo ≤ℤ x → ((a +ℤ x) +ℤ p) ≤ℤ s → (a +ℤ q) ≤ℤ s
-low-step a x lo p q s e h k = omega (arith, ints)
-
-high-step : (a x hi p q s : ℤ) → q ≡ p +ℤ hi → x ≤ℤ hi → s ≤ℤ ((a +ℤ x) +ℤ p) → s ≤ℤ (a +ℤ q)
-high-step a x hi p q s e h k = omega (arith, ints)
-
-none-low : (a p : ℤ) → p ≡ pos 0 → (a +ℤ p) ≤ℤ a
-none-low a p e = omega (arith, ints)
-
-none-high : (a p : ℤ) → p ≡ pos 0 → a ≤ℤ (a +ℤ p)
-none-high a p e = omega (arith, ints)
-
-fold-between : (lo hi a : ℤ) (xs : List ℤ) → All (IsBetween lo hi) xs → ((a +ℤ (pos (length xs) *ℤ lo)) ≤ℤ fold ◌+ℤ◌ a xs) × (fold ◌+ℤ◌ a xs ≤ℤ (a +ℤ (pos (length xs) *ℤ hi)))
-fold-between lo hi a [] h = (none-low a (pos 0 *ℤ lo) (zero-*ℤ lo), none-high a (pos 0 *ℤ hi) (zero-*ℤ hi))
-fold-between lo hi a (x ∷ xs) h =
-    let head = All-head (IsBetween lo hi) x xs h in
-    let ih = fold-between lo hi (a +ℤ x) xs (All-tail (IsBetween lo hi) x xs h) in
-    let s = fold ◌+ℤ◌ (a +ℤ x) xs in (
-      low-step a x lo (pos (length xs) *ℤ lo) (pos (suc (length xs)) *ℤ lo) s (suc_ℤ-*ℤ (pos (length xs)) lo) head.0 ih.0,
-      high-step a x hi (pos (length xs) *ℤ hi) (pos (suc (length xs)) *ℤ hi) s (suc_ℤ-*ℤ (pos (length xs)) hi) head.1 ih.1,
-    )
-
-from-zero-low : (p s : ℤ) → (pos 0 +ℤ p) ≤ℤ s → p ≤ℤ s
-from-zero-low p s h = omega (arith, ints)
-
-from-zero-high : (p s : ℤ) → s ≤ℤ (pos 0 +ℤ p) → s ≤ℤ p
-from-zero-high p s h = omega (arith, ints)
-
--- the sum of numbers from lo to hi is between as many times lo and as many times hi
-sum-between : (lo hi : ℤ) (xs : List ℤ) → All (IsBetween lo hi) xs → IsBetween (pos (length xs) *ℤ lo) (pos (length xs) *ℤ hi) (int_sum xs)
-sum-between lo hi xs h =
-    let bounds = fold-between lo hi (pos 0) xs h in
-    (from-zero-low (pos (length xs) *ℤ lo) (int_sum xs) bounds.0, from-zero-high (pos (length xs) *ℤ hi) (int_sum xs) bounds.1)
 
 min-zero : (lo : ℤ) → (int_min (pos 0) lo ≤ℤ pos 0) × (int_min (pos 0) lo ≤ℤ lo)
 min-zero lo = (omega (arith, ints, clamps), omega (arith, ints, clamps))

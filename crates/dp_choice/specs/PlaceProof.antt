@@ -1,11 +1,13 @@
 -- Which draws choose a place: those from the share before the place to the share with it.
-use Rattle.std.proofs.Common.{◌≡◌, ℕ, zero, suc, ◌+◌, ◌-◌, ◌*◌, ◌/◌, ◌≤◌, ◌<◌, Bool, true, false, ◌&&◌, List, [], ◌∷◌, length, take, refl, ◌∙◌, ap, arith, ltb, leb, eqb, add-one}
+use Rattle.std.proofs.Common.{◌≡◌, ℕ, zero, suc, ◌+◌, ◌-◌, ◌*◌, ◌≤◌, ◌<◌, Bool, true, false, ◌&&◌, List, [], length, take, refl, ◌∙◌, ap, arith, ltb, leb, eqb, add-one}
 use Rattle.std.specs.Prelude.{slice_index}
 use Rattle.std.specs.List.{sum}
+use Rattle.std.proofs.lemmas.Bool.{ne_eqb}
 use Rattle.std.proofs.lemmas.Bool.Decides.{nat_tests}
-use Rattle.std.proofs.lemmas.List.Sums.{sum_by-cons, sum_by_more}
+use Rattle.std.proofs.lemmas.List.Sums.{sum_by_more}
 use Rattle.std.proofs.Math.Seq.{take-length}
-use Rattle.std.proofs.Math.Nat.{mul-le-mul_left, div-mul-le_self, lt-div-mul-add, mul-div_left, le-div_iff_mul-le, zero-div}
+use Rattle.std.proofs.Math.Nat.{mul-le-mul_left, div-mul-le_self, lt-div-mul-add, mul-div_left, zero-div}
+use Rattle.dp_count.proofs.Floors.{bounds-by, div-grows, take-grows}
 use Rattle.dp_choice.specs.Shares.{share, last_below, chosen}
 
 -- the last number that meets a test, for one that does and after which none does
@@ -63,11 +65,6 @@ last_below-after : (n k : ℕ) (test : ℕ → Bool) → last_below n test < k �
 last_below-after zero k test over h = absurd (omega arith)
 last_below-after (suc n) k test over h = after-by (test n) n k test refl over h (last_below-after n k test)
 
--- two different numbers
-apart-by : (t : Bool) (a j : ℕ) → eqb a j ≡ t → (a ≡ j → ⊥) → t ≡ false
-apart-by true a j e h = absurd (h (grind (arith, nat_tests)))
-apart-by false a j e h = refl
-
 -- bounds from 0 to n that do not fall
 pub record Rising (bound : ℕ → ℕ) (len n : ℕ) : Type 0 where
   pub start : bound 0 ≡ 0
@@ -93,11 +90,11 @@ interval-by true true len n draw j bound r e f h below =
     rw is (grind (arith, nat_tests))
 interval-by true false len n draw j bound r e f h below =
     let past : bound (suc j) ≤ draw = grind (arith, nat_tests) in
-    apart-by _ _ j refl (λ same. too_late (ltb (suc j) len) len n draw j bound r refl past h below same)
+    ne_eqb _ j (λ same. too_late (ltb (suc j) len) len n draw j bound r refl past h below same)
 interval-by false to len n draw j bound r e f h below =
     let zero_met : leb (bound 0) draw ≡ true = rw r.start (grind (arith, nat_tests)) in
     let met = last_below-meets len (λ k. leb (bound k) draw) zero_met in
-    apart-by _ _ j refl (λ same. cc)
+    ne_eqb _ j (λ same. cc)
 
 -- the shares of weights are such bounds
 share-start : (n : ℕ) (ws : List ℕ) → share n ws 0 ≡ 0
@@ -105,15 +102,6 @@ share-start n ws = let none : n * sum [] ≡ 0 = omega arith in rw none (zero-di
 
 share-whole : (n : ℕ) (ws : List ℕ) → 1 ≤ sum ws → share n ws (length ws) ≡ n
 share-whole n ws h = rw take-length (mul-div_left n {n = sum ws} h)
-
-div-grows : (a b k : ℕ) → 1 ≤ k → a ≤ b → a / k ≤ b / k
-div-grows a b k h l = let floor = div-mul-le_self a k in (le-div_iff_mul-le {k = k} {x = a / k} {y = b} h).1 (omega arith)
-
-take-grows : (ws : List ℕ) (a b : ℕ) → a ≤ b → sum (take a ws) ≤ sum (take b ws)
-take-grows ws zero b h = omega arith
-take-grows ws (suc a) zero h = absurd (omega arith)
-take-grows [] (suc a) (suc b) h = omega arith
-take-grows (x ∷ ws) (suc a) (suc b) h = let ih = take-grows ws a b (omega arith) in rw (sum_by-cons (λ n. n) x (take a ws), sum_by-cons (λ n. n) x (take b ws)) (omega arith)
 
 share-rise : (n : ℕ) (ws : List ℕ) (a b : ℕ) → 1 ≤ sum ws → a ≤ b → share n ws a ≤ share n ws b
 share-rise n ws a b h l = div-grows _ _ (sum ws) h (mul-le-mul_left n (take-grows ws a b l))
@@ -135,13 +123,6 @@ unfolding chosen
 chosen-below n ws draw h = let most = last_below-most (length ws) (λ j. leb (share n ws j) draw) in omega arith
 
 -- the number of draws of a place, times the sum of the weights, lies strictly within one sum of the exact share
-bounds-by : (exact more w from to : ℕ) → from * w ≤ exact → exact < from * w + w → to * w ≤ exact + more → exact + more < to * w + w → from ≤ to →
-    (more < (to - from) * w + w) × ((to - from) * w < more + w)
-bounds-by exact more w from to a b c d h =
-    let same : to ≡ from + (to - from) = omega arith in
-    let split : to * w ≡ from * w + (to - from) * w = ap (λ x. x * w) same ∙ omega arith in
-    (omega arith, omega arith)
-
 share-next : (n : ℕ) (ws : List ℕ) (j : ℕ) → j < length ws → n * sum (take (suc j) ws) ≡ n * sum (take j ws) + n * slice_index ws j
 share-next n ws j h =
     let more = sum_by_more (λ x. x) ws j 0 h in

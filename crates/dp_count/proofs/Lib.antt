@@ -1,10 +1,13 @@
 pub mod AllDrawLists
 pub mod Counting
 pub mod DrawLists
+pub mod Floors
 pub mod LeadingRun
 pub mod Places
 pub mod Ratios
+pub mod Repeats
 pub mod ReplySets
 pub mod Runs
+pub mod SignedProducts
 pub mod Slots
 pub mod Spelling

@@ -2,10 +2,13 @@ pub mod Distance
 pub mod EdgeTests
 pub mod Equality
 pub mod Examples
+pub mod Exchange
+pub mod Gaps
 pub mod Groups
 pub mod Growth
 pub mod Histograms
 pub mod Limits
+pub mod ListSums
 pub mod NarrowRanges
 pub mod Occurrences
 pub mod Places

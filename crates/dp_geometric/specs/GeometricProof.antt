@@ -6,7 +6,6 @@ use Rattle.std.specs.Ordering.{int_eq}
 use Rattle.std.specs.Cmp.Lexicographic.{pointwise}
 use Rattle.std.proofs.lemmas.Int.{ints}
 use Rattle.std.proofs.lemmas.List.{length-replicate}
-use Rattle.std.proofs.lemmas.List.Sums.{sum_by-cons}
 use Rattle.std.proofs.lemmas.List.Elements.{All-append, All-cons, All-nil, All-replicate}
 use Rattle.std.proofs.Math.Bool.{and-false, and-true}
 use Rattle.std.proofs.Math.Nat.{mul-le-mul, suc-mul}
@@ -18,7 +17,7 @@ use Rattle.dp_count.proofs.Ratios.{ratio-more, ratio-none, ratio-powers}
 use Rattle.dp_count.proofs.Slots.{replies-ratio}
 use Rattle.dp_num.specs.Limits.{Fraction, ArePowers}
 use Rattle.dp_domain.specs.Distance.{l1}
-use Rattle.dp_domain.proofs.VectorDistance.{l1-cons}
+use Rattle.dp_domain.proofs.Gaps.{gaps, gaps-sum}
 use Rattle.dp_domain.specs.Domains.{Fits, Has}
 use Rattle.dp_domain.specs.Metrics.{Within, SuitsMetric}
 use Rattle.dp_domain.specs.declared.domains.Domain.{Domain}
@@ -66,18 +65,6 @@ cells-joined : (cell : CellNumbers) (zs : List ℤ) → cells_shape (length zs) 
 unfolding cells_shape joined_shape
 cells-joined cell [] = refl
 cells-joined cell (z ∷ zs) = ap (λ s. cell_shape cell ++ s) (cells-joined cell zs)
-
--- how far two vectors' cells are apart
-gaps : List ℤ → List ℤ → List ℕ
-gaps (x ∷ xs) (y ∷ ys) = nat_abs (x -ℤ y) ∷ gaps xs ys
-gaps _ _ = []
-
-gaps-sum : (xs ys : List ℤ) → sum (gaps xs ys) ≡ l1 xs ys
-unfolding gaps l1
-gaps-sum [] ys = refl
-gaps-sum (x ∷ xs) [] = refl
-gaps-sum (x ∷ xs) (y ∷ ys) =
-    sum_by-cons (λ n. n) (nat_abs (x -ℤ y)) (gaps xs ys) ∙ ap (λ n. nat_abs (x -ℤ y) + n) (gaps-sum xs ys) ∙ sym (l1-cons x y xs ys)
 
 slots-near : (cell : CellNumbers) (xs ys : List ℤ) → cell.lo ≤ℤ cell.hi → cell.low < cell.high → length xs ≡ length ys →
     SlotsKeepRatios int_eq cell.low cell.high (gaps xs ys) (map (cell_slot cell) xs) (map (cell_slot cell) ys)

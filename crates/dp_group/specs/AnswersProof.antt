@@ -1,10 +1,10 @@
 -- Answers on several values one after the other: how many draw lists give them, and how many pieces they have.
-use Rattle.std.proofs.Common.{◌≡◌, ℕ, zero, suc, ◌*◌, Bool, ◌&&◌, List, [], ◌∷◌, ◌++◌, map, length, take, drop, refl, sym, ◌∙◌, ap, arith, length-append}
+use Rattle.std.proofs.Common.{◌≡◌, ℕ, ◌*◌, Bool, ◌&&◌, List, [], ◌∷◌, ◌++◌, map, length, take, drop, refl, sym, ◌∙◌, ap, arith, length-append}
 use Rattle.std.specs.List.{All, repeat, sum_by}
 use Rattle.std.specs.Cmp.Lexicographic.{pointwise}
 use Rattle.std.proofs.Math.Bool.{and_assoc}
 use Rattle.std.proofs.Math.Nat.{suc-mul}
-use Rattle.std.proofs.lemmas.List.Elements.{All-append, All-head, All-nil, All-tail}
+use Rattle.std.proofs.lemmas.List.Elements.{All-head, All-tail}
 use Rattle.std.proofs.lemmas.List.Sums.{sum_by-cons}
 use Rattle.dp_count.specs.DrawLists.{count, IsDrawList}
 use Rattle.dp_count.specs.Ratios.{KeepsRatio}
@@ -18,17 +18,6 @@ use Rattle.dp_law.specs.AnswerEquality.{piece_eq, same_answer}
 use Rattle.dp_law.specs.Mechanism.{Mechanism, IsPrivate, ways}
 use Rattle.dp_group.specs.Grouped.{answers_on}
 use Rattle.dp_group.specs.GroupedLaw.{AreNear}
-
-pub length-repeat : {A : Type 0} (n : ℕ) (xs : List A) → length (repeat n xs) ≡ n * length xs
-length-repeat zero xs = omega arith
-length-repeat (suc n) xs =
-    let joined = length-append xs (repeat n xs) in
-    let rest = length-repeat n xs in
-    rw suc-mul (omega arith)
-
-pub All-repeat : {A : Type 0} (P : A → Type 0) (n : ℕ) (xs : List A) → All P xs → All P (repeat n xs)
-All-repeat P zero xs h = All-nil P
-All-repeat P (suc n) xs h = All-append P xs (repeat n xs) h (All-repeat P n xs h)
 
 -- an answer in two parts is the same as another where the parts are
 pointwise-parts : {E : Type 0} (same : E → E → Bool) (xs ys zs : List E)

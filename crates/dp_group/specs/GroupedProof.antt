@@ -11,6 +11,7 @@ use Rattle.std.proofs.lemmas.List.Elements.{All-cons, All-nil}
 use Rattle.std.proofs.lemmas.List.Sums.{sum_by-cons}
 use Rattle.dp_count.specs.DrawLists.{IsDrawList}
 use Rattle.dp_count.proofs.Ratios.{ratio-more}
+use Rattle.dp_count.proofs.Repeats.{length-repeat, All-repeat}
 use Rattle.dp_num.specs.Limits.{capped}
 use Rattle.dp_domain.specs.Distance.{diff, occurrences, text_eq, record_eq}
 use Rattle.dp_domain.specs.Domains.{Fits, Has, few_and_one}
@@ -34,7 +35,7 @@ use Rattle.dp_rowwise.specs.Categories.{are_different}
 use Rattle.dp_rowwise.specs.Columns.{HasColumn}
 use Rattle.dp_rowwise.specs.Filter.{filter_value}
 use Rattle.dp_rowwise.specs.FilterProof.{filter_law}
-use Rattle.dp_group.specs.AnswersProof.{length-repeat, All-repeat, ways-cons, near-answers, answers-whole}
+use Rattle.dp_group.specs.AnswersProof.{ways-cons, near-answers, answers-whole}
 use Rattle.dp_group.specs.Grouped.{groups_of, grouped_loss, grouped}
 use Rattle.dp_group.specs.GroupedLaw.{Records, AreNear, IsOfRecords, GroupedWaysLaw, GroupedPrivateLaw}
 use Rattle.dp_group.specs.StepsProof.{HasRows, near-at, near-steps}

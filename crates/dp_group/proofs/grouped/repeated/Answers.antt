@@ -1,6 +1,6 @@
 use Rattle.std.proofs.Common.{◌≡◌, ◌+◌, ◌*◌, ◌≤◌, ◌++◌, ap, ◌∙◌, length, arith}
 use Rattle.std.proofs.Math.Nat.{mul-le-mul_right, add-mul}
-use Rattle.dp_group.specs.AnswersProof.{length-repeat}
+use Rattle.dp_count.proofs.Repeats.{length-repeat}
 use Rattle.dp_group.proofs.Repeating.{repeat-more}
 use Rattle.dp_group.proofs.grouped.repeated.Goals as goal
 

@@ -1,6 +1,6 @@
 use Rattle.std.proofs.Common.{length, ap, ◌*◌}
 use Rattle.dp_rowwise.specs.Parts.{category_texts}
-use Rattle.dp_group.specs.AnswersProof.{length-repeat}
+use Rattle.dp_count.proofs.Repeats.{length-repeat}
 use Rattle.dp_group.proofs.grouped.GroupedMeasurement.draws.Goals as goal
 
 pub returns : goal.returns
