@@ -2,7 +2,7 @@ ghost use Rattle.std.specs.Prelude.{◌≤◌};
 
 mod account;
 mod check;
-mod read_faults;
+mod faults;
 mod release;
 mod sample;
 mod sessions;
@@ -351,70 +351,6 @@ fn words_of_no_form(rt: HostRuntime) -> Result<(), Fail> {
 
 /// The words of a count of the file `data`.
 const COUNT: [&str; 5] = ["count", "data", "draws", "0", "5"];
-
-/// What a run shows of a count of three records whose noise is 0, where such calls fail.
-fn count_with(rt: &impl AllocGlobal, calls: Calls) -> Result<Shown, Fail> {
-    run_with(rt, &COUNT, b"a\nb\nc\n", b"0 0 0 0 0 0", calls)
-}
-
-/// The calls of the shelf, with 7 bytes a read: DATA is opened and read (6 bytes, none), DRAWS is opened and read (7
-/// bytes, 4, none).
-const SHELF_CALLS: u64 = 7;
-
-#[test]
-fn each_call_of_the_shelf_that_fails_is_a_read_fault(rt: HostRuntime) -> Result<(), Fail> {
-    for call in 1..=SHELF_CALLS {
-        let shown = count_with(
-            &rt,
-            Calls {
-                shelf: call,
-                ..NO_FAILURE
-            },
-        )?;
-        assert_eq!(rt; shown.status, 4, "call {call}");
-        assert!(rt; shown.out.is_empty());
-        assert_eq!(rt; shown.err.as_slice(), b"dp: read fault\n".as_slice());
-    }
-    let shown = count_with(
-        &rt,
-        Calls {
-            shelf: SHELF_CALLS + 1,
-            ..NO_FAILURE
-        },
-    )?;
-    assert_eq!(rt; shown.status, 0);
-    assert_eq!(rt; shown.out.as_slice(), b"answer 3\n".as_slice());
-    Ok(())
-}
-
-#[test]
-fn a_call_of_an_output_that_fails(rt: HostRuntime) -> Result<(), Fail> {
-    let write_fault = b"dp: write fault\n".as_slice();
-    let answer = b"answer 3\n".as_slice();
-    for (out, err, whole, status, held, told) in [
-        (1, 0, true, 5, b"".as_slice(), write_fault),
-        (2, 0, false, 5, b"ans".as_slice(), write_fault),
-        (3, 0, false, 5, b"answer".as_slice(), write_fault),
-        (4, 0, false, 0, answer, b"".as_slice()),
-        (2, 0, true, 0, answer, b"".as_slice()),
-        (1, 1, true, 5, b"".as_slice(), b"".as_slice()),
-        (1, 2, false, 5, b"".as_slice(), b"dp: w".as_slice()),
-        (1, 2, true, 5, b"".as_slice(), write_fault),
-        (0, 1, true, 0, answer, b"".as_slice()),
-    ] {
-        let calls = Calls {
-            out,
-            err,
-            whole,
-            ..NO_FAILURE
-        };
-        let shown = count_with(&rt, calls)?;
-        assert_eq!(rt; shown.status, status, "out {out}, err {err}");
-        assert_eq!(rt; shown.out.as_slice(), held, "out {out}, err {err}");
-        assert_eq!(rt; shown.err.as_slice(), told, "out {out}, err {err}");
-    }
-    Ok(())
-}
 
 #[test]
 fn draws_of_more_than_their_limit_are_too_long(rt: HostRuntime) -> Result<(), Fail> {

@@ -73,14 +73,6 @@ pub(super) fn accounts(
     Ok(())
 }
 
-/// The lines of three asks of a filter of 5.
-const FILTER_FIVE_LINES: [&str; 4] = [
-    "1 admitted draws 1 cost 3 spent 3",
-    "2 refused 7 budget 3 2",
-    "3 admitted draws 1 cost 2 spent 5",
-    "end 3 spent 5",
-];
-
 #[test]
 fn account_of_a_filter_of_five(rt: HostRuntime) -> Result<(), Fail> {
     account_law();
@@ -88,7 +80,12 @@ fn account_of_a_filter_of_five(rt: HostRuntime) -> Result<(), Fail> {
         &rt,
         FILTER_FIVE,
         &[ASK_THREE, ASK_THREE, ASK_TWO],
-        &FILTER_FIVE_LINES,
+        &[
+            "1 admitted draws 1 cost 3 spent 3",
+            "2 refused 7 budget 3 2",
+            "3 admitted draws 1 cost 2 spent 5",
+            "end 3 spent 5",
+        ],
     )
 }
 
@@ -313,75 +310,5 @@ fn words_after_account_name_two_files(rt: HostRuntime) -> Result<(), Fail> {
     shows(&rt, &shown, 4, b"", read_fault);
     let shown = run(&rt, &["account", "data", "other"], b"[1", b"")?;
     shows(&rt, &shown, 3, b"", b"dp: pipeline refused 6\n");
-    Ok(())
-}
-
-#[test]
-fn each_call_of_the_shelf_that_fails_an_account_is_a_read_fault(
-    rt: HostRuntime,
-) -> Result<(), Fail> {
-    let text = joined(&rt, &[ASK_THREE, ASK_THREE, ASK_TWO])?;
-    let all = joined(&rt, &FILTER_FIVE_LINES)?;
-    let lines = joined(&rt, &FILTER_FIVE_LINES[..3])?;
-    // The pipeline is opened and read, and has then no more; so are the queries.
-    for (shelf, status, out) in [
-        (1, 4, b"".as_slice()),
-        (2, 4, b"".as_slice()),
-        (3, 4, b"".as_slice()),
-        (4, 4, b"".as_slice()),
-        (5, 4, b"".as_slice()),
-        (6, 4, lines.as_bytes()),
-        (7, 0, all.as_bytes()),
-    ] {
-        let calls = Calls {
-            shelf,
-            whole: true,
-            ..NO_FAILURE
-        };
-        let shown = account_with(&rt, FILTER_FIVE, text.as_bytes(), calls)?;
-        let err = if status == 0 {
-            b"".as_slice()
-        } else {
-            b"dp: read fault\n".as_slice()
-        };
-        shows(&rt, &shown, status, out, err);
-    }
-    Ok(())
-}
-
-#[test]
-fn a_write_that_fails_an_account(rt: HostRuntime) -> Result<(), Fail> {
-    let text = joined(&rt, &[ASK_THREE, ASK_THREE, ASK_TWO])?;
-    let all = joined(&rt, &FILTER_FIVE_LINES)?;
-    let one = joined(&rt, &FILTER_FIVE_LINES[..1])?;
-    let two = joined(&rt, &FILTER_FIVE_LINES[..2])?;
-    let three = joined(&rt, &FILTER_FIVE_LINES[..3])?;
-    for (out, whole, status, held) in [
-        (1, true, 5, b"".as_slice()),
-        (2, true, 5, one.as_bytes()),
-        (3, true, 5, two.as_bytes()),
-        (4, true, 5, three.as_bytes()),
-        (5, true, 0, all.as_bytes()),
-        (2, false, 5, b"1 a".as_slice()),
-        (
-            14,
-            false,
-            5,
-            b"1 admitted draws 1 cost 3 spent 3\n2 r".as_slice(),
-        ),
-    ] {
-        let calls = Calls {
-            out,
-            whole,
-            ..NO_FAILURE
-        };
-        let shown = account_with(&rt, FILTER_FIVE, text.as_bytes(), calls)?;
-        let err = if status == 0 {
-            b"".as_slice()
-        } else {
-            b"dp: write fault\n".as_slice()
-        };
-        shows(&rt, &shown, status, held, err);
-    }
     Ok(())
 }

@@ -1,13 +1,13 @@
+use super::NO_FAILURE;
 use super::account::{joined, shows};
 use super::sessions::{CENSUS, PERSONS, TWO_RECORDS, Texts, run_with};
-use super::{Calls, NO_FAILURE};
 use crate::laws::{group_law, post_law};
 use dp_draws::{Draws, NoDraws, Replay, Zeros};
 use std::process::Abort;
 use std::test::Fail;
 
 /// The words of the women in three districts.
-const BY_DISTRICT: [&str; 8] = [
+pub(super) const BY_DISTRICT: [&str; 8] = [
     "group", "pipeline", "data", "women", "district", "North", "South", "East",
 ];
 
@@ -375,22 +375,4 @@ fn a_refused_release_takes_no_draw(rt: HostRuntime) -> Result<(), Fail> {
         &mut NoDraws::new(),
         &lines,
     )
-}
-
-#[test]
-fn a_write_that_fails_ends_a_release(rt: HostRuntime) -> Result<(), Fail> {
-    let calls = Calls {
-        out: 2,
-        whole: false,
-        ..NO_FAILURE
-    };
-    let shown = run_with(
-        &rt,
-        &BY_DISTRICT,
-        over(CENSUS, PERSONS),
-        &mut Zeros::new(),
-        calls,
-    )?;
-    shows(&rt, &shown, 5, b"1 a", b"dp: write fault\n");
-    Ok(())
 }

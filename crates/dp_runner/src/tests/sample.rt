@@ -6,12 +6,11 @@ use dp_io::MemShelf;
 use std::process::Abort;
 use std::test::Fail;
 
-/// What a run with these words shows over a shelf that has no file, where the call of its output with this number
-/// fails; 0 is none. No draw is taken from the source that is handed in: it has none.
-fn run_with(rt: &impl AllocGlobal, words: &[&str], out: u64) -> Result<Shown, Fail> {
+/// What a run with these words shows over a shelf that has no file. No draw is taken from the source that is handed in:
+/// it has none.
+fn run_with(rt: &impl AllocGlobal, words: &[&str]) -> Result<Shown, Fail> {
     let alloc = rt.alloc();
     let calls = Calls {
-        out,
         whole: true,
         ..NO_FAILURE
     };
@@ -28,7 +27,7 @@ fn run_with(rt: &impl AllocGlobal, words: &[&str], out: u64) -> Result<Shown, Fa
 
 /// That a run of so many records writes these lines and ends with 0.
 fn samples(rt: &(impl Abort + AllocGlobal), records: &str, lines: &[&str]) -> Result<(), Fail> {
-    let shown = run_with(rt, &["sample", records], 0)?;
+    let shown = run_with(rt, &["sample", records])?;
     shows(rt, &shown, 0, joined(rt, lines)?.as_bytes(), b"");
     Ok(())
 }
@@ -91,18 +90,8 @@ fn words_of_no_form(rt: HostRuntime) -> Result<(), Fail> {
         ["sample", "-1"].as_slice(),
         ["sample", "1x"].as_slice(),
     ] {
-        let shown = run_with(&rt, words, 0)?;
+        let shown = run_with(&rt, words)?;
         shows(&rt, &shown, 2, b"", b"dp: usage\n");
     }
-    Ok(())
-}
-
-#[test]
-fn a_call_of_the_output_that_fails(rt: HostRuntime) -> Result<(), Fail> {
-    let fault = b"dp: write fault\n".as_slice();
-    let shown = run_with(&rt, &["sample", "1000"], 1)?;
-    shows(&rt, &shown, 5, b"", fault);
-    let shown = run_with(&rt, &["sample", "1000"], 2)?;
-    shows(&rt, &shown, 5, b"records 1000\n", fault);
     Ok(())
 }

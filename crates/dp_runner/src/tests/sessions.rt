@@ -11,11 +11,11 @@ use std::process::Abort;
 use std::test::Fail;
 
 /// The words of the three commands over the files `pipeline`, `data`, `queries` and `draws`.
-const RUN: [&str; 4] = ["run", "pipeline", "data", "queries"];
+pub(super) const RUN: [&str; 4] = ["run", "pipeline", "data", "queries"];
 
-const REPLAY: [&str; 5] = ["replay", "pipeline", "data", "queries", "draws"];
+pub(super) const REPLAY: [&str; 5] = ["replay", "pipeline", "data", "queries", "draws"];
 
-const REHEARSE: [&str; 5] = ["rehearse", "pipeline", "data", "queries", "0"];
+pub(super) const REHEARSE: [&str; 5] = ["rehearse", "pipeline", "data", "queries", "0"];
 
 /// Two records of two columns.
 pub(super) const TWO_RECORDS: &[u8] = b"F,3\nM,4\n";
@@ -544,101 +544,4 @@ fn a_pipeline_is_refused_before_the_data_are_opened(rt: HostRuntime) -> Result<(
         ends(&rt, words, 3, b"", b"dp: pipeline refused 6\n")?;
     }
     Ok(())
-}
-
-/// That the call of the shelf with this number ends a run of one ask, which then wrote this; 0 is none that fails.
-fn reads_until(
-    rt: &(impl Abort + AllocGlobal),
-    words: &[&str],
-    shelf: u64,
-    out: &[u8],
-) -> Result<(), Fail> {
-    let calls = Calls {
-        shelf,
-        whole: true,
-        ..NO_FAILURE
-    };
-    let shown = run_with(rt, words, one_ask(), &mut Zeros::new(), calls)?;
-    shows(rt, &shown, 4, out, b"dp: read fault\n");
-    Ok(())
-}
-
-const ANSWERED: &[u8] = b"1 answer 0 cost 1 spent 1\n";
-
-#[test]
-fn each_call_of_the_shelf_that_fails_a_run_is_a_read_fault(rt: HostRuntime) -> Result<(), Fail> {
-    // Each of the three files is opened and read, and has then no more.
-    for call in 1..=8 {
-        reads_until(&rt, &RUN, call, b"")?;
-    }
-    reads_until(&rt, &RUN, 9, ANSWERED)
-}
-
-#[test]
-fn each_call_of_the_shelf_that_fails_a_replay_is_a_read_fault(rt: HostRuntime) -> Result<(), Fail> {
-    // So are the four files of a replay.
-    for call in 1..=11 {
-        reads_until(&rt, &REPLAY, call, b"")?;
-    }
-    reads_until(&rt, &REPLAY, 12, ANSWERED)
-}
-
-#[test]
-fn each_call_of_the_shelf_that_fails_a_rehearsal_is_a_read_fault(
-    rt: HostRuntime,
-) -> Result<(), Fail> {
-    // The first line is written before the third file is opened.
-    for call in 1..=6 {
-        reads_until(&rt, &REHEARSE, call, b"")?;
-    }
-    for call in 7..=8 {
-        reads_until(&rt, &REHEARSE, call, b"rehearsal\n")?;
-    }
-    reads_until(&rt, &REHEARSE, 9, b"rehearsal\n1 answer 0 cost 1 spent 1\n")
-}
-
-/// What a run of one ask shows, where such calls of its outputs fail.
-fn writes_until(
-    rt: &(impl Abort + AllocGlobal),
-    words: &[&str],
-    out: u64,
-    err: u64,
-    status: u8,
-    held: &[u8],
-    told: &[u8],
-) -> Result<(), Fail> {
-    let calls = Calls {
-        out,
-        err,
-        whole: true,
-        ..NO_FAILURE
-    };
-    let shown = run_with(rt, words, one_ask(), &mut Zeros::new(), calls)?;
-    shows(rt, &shown, status, held, told);
-    Ok(())
-}
-
-#[test]
-fn a_call_of_an_output_that_fails_a_run_or_a_replay(rt: HostRuntime) -> Result<(), Fail> {
-    let fault = b"dp: write fault\n".as_slice();
-    let all = b"1 answer 0 cost 1 spent 1\nend 1 spent 1\n".as_slice();
-    for words in [RUN.as_slice(), REPLAY.as_slice()] {
-        writes_until(&rt, words, 1, 0, 5, b"", fault)?;
-        writes_until(&rt, words, 2, 0, 5, ANSWERED, fault)?;
-        writes_until(&rt, words, 3, 0, 0, all, b"")?;
-        writes_until(&rt, words, 1, 1, 5, b"", b"")?;
-        writes_until(&rt, words, 0, 1, 0, all, b"")?;
-    }
-    Ok(())
-}
-
-#[test]
-fn a_call_of_an_output_that_fails_a_rehearsal(rt: HostRuntime) -> Result<(), Fail> {
-    let fault = b"dp: write fault\n".as_slice();
-    let first = b"rehearsal\n".as_slice();
-    let two = b"rehearsal\n1 answer 0 cost 1 spent 1\n".as_slice();
-    writes_until(&rt, &REHEARSE, 1, 0, 5, b"", fault)?;
-    writes_until(&rt, &REHEARSE, 2, 0, 5, first, fault)?;
-    writes_until(&rt, &REHEARSE, 3, 0, 5, two, fault)?;
-    writes_until(&rt, &REHEARSE, 2, 1, 5, first, b"")
 }
