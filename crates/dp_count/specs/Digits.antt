@@ -25,7 +25,7 @@ word number = option_and_then (at_most (2 ^ 64 - 1)) number
 unfoldable pub short_decimal : ℕ → List ℕ → Option ℕ
 short_decimal longest bytes = if nat_le (length bytes) longest then decimal bytes else None
 
--- whether the bytes begin with a `-`, and the bytes after it
+-- whether the bytes begin with a `-`, and the bytes after it, or else all
 unfoldable pub without_sign : List ℕ → Bool × List ℕ
 without_sign [] = (false, [])
 without_sign (byte ∷ bytes) = if byte == 45 then (true, bytes) else (false, byte ∷ bytes)

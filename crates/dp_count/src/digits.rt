@@ -39,7 +39,7 @@ pub fn signed_decimal(bytes: &[u8], longest: usize) -> Option<i64>
     Some(with_sign(negative, number))
 }
 
-/// Whether the bytes begin with a `-`, and the bytes after it.
+/// Whether the bytes begin with a `-`, and the bytes after it, or else all.
 pub fn without_sign(bytes: &[u8]) -> (bool, &[u8])
     ensures { (result.0, result.1.now) ≡ without_sign bytes.now }
 {
