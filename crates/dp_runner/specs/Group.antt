@@ -1,6 +1,7 @@
 -- The command `group P DATA PLAN COLUMN TEXT..`: one release on the records of each text in a column.
-use Rattle.std.specs.Prelude.{ℕ, ◌&&◌, List, ◌∷◌, length, Option, Some, None, if◌then◌else◌, nat_le, option_map}
+use Rattle.std.specs.Prelude.{ℕ, List, ◌∷◌, length, Option, Some, None, if◌then◌else◌, option_map}
 use Rattle.dp_count.specs.Slots.{Slot}
+use Rattle.dp_domain.specs.Domains.{few_and_one}
 use Rattle.dp_domain.specs.declared.values.Value.TheVariants as value
 use Rattle.dp_session.specs.Singles.{group_verdict, single_slot}
 use Rattle.dp_runner.specs.OneRelease.{PlanForm, plan_form_of, release_command}
@@ -16,7 +17,7 @@ pub record GroupForm : Type 0 where
 -- 1 to 1,023 texts; any words may be a column's and the texts
 abbrev pub group_form_of : List ℕ → List ℕ → List ℕ → List ℕ → List (List ℕ) → Option GroupForm
 group_form_of pipeline_name data_name plan column texts =
-    if nat_le 1 (length texts) && nat_le (length texts) 1023
+    if few_and_one (length texts)
     then option_map (λ names. record { names = names; column = column; texts = texts })
     (plan_form_of pipeline_name data_name plan)
     else None

@@ -3,16 +3,13 @@ ghost use Rattle.dp_runner.specs.Group.{group_form, group_form_of};
 
 use crate::release::{OneRelease, PlanForm, plan_form_of};
 use dp_count::NoMemory;
-use dp_domain::{Text, Texts};
+use dp_domain::{Text, Texts, few_and_one};
 use dp_draws::Draws;
 use dp_pipeline::Pipeline;
 use dp_session::{SessionFault, group_text};
 use dp_store::Store;
 use std::alloc::Global;
 use std::marker::Model;
-
-/// The greatest number of texts.
-const MOST_TEXTS: usize = 1_023;
 
 /// The words of `group P DATA PLAN COLUMN TEXT..`.
 #[derive(Drop)]
@@ -101,7 +98,7 @@ fn group_form_of<'a>(
     ensures { result ≡ group_form_of pipeline_name.now data_name.now plan.now column.now
         (map string_bytes texts.now) }
 {
-    if texts.is_empty() || texts.len() > MOST_TEXTS {
+    if !few_and_one(texts.len() as u64) {
         return None;
     }
     let names = plan_form_of(pipeline_name, data_name, plan)?;
